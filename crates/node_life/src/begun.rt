@@ -6,7 +6,6 @@ ghost use Rattle.thread_roles.specs.Going.{Begins, LifeView};
 ghost use Rattle.thread_roles.specs.Shown.{last_published};
 ghost use Rattle.version_board.specs.Seats.{IsPublisherOf};
 
-use crate::homes::Homes;
 use hash_laws::FlowHash;
 use selection::Scheme;
 use stats_book::Names;
@@ -134,11 +133,6 @@ impl<'e, S: Scheme, H: FlowHash, G, B: Names> Begun<'e, S, H, G, B> {
         ensures { result ≡ life.entry }
     {
         Begun { life, board, seat }
-    }
-
-    /// The workers on which it may place packets.
-    pub(crate) fn homes(&self) -> Homes {
-        Homes::of_life(self.life.plan.assignment, self.life.progress.at)
     }
 
     /// What its threads share.

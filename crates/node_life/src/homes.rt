@@ -1,4 +1,4 @@
-//! Which workers of a life need threads.
+//! Which workers of a life need rings and threads.
 use cluster_node::Packet;
 use hash_laws::FlowHash;
 use selection::Scheme;
@@ -7,12 +7,11 @@ use thread_records::Command;
 use thread_roles::Assignment;
 
 /// The workers on which a life may place packets: the homes of the flows that it offers. Where it offers more packets than a ring
-/// has places they are all workers, since a packet whose home is full goes to another one. No answer rests on them: a worker that is
-/// none of them serves what its ring has once the others have ended.
+/// has places they are all workers, since a packet whose home is full goes to another one. A worker that is none of them gets no
+/// ring and no thread. No promise rests on them: the records are compared whatever they are.
 #[derive(Clone, Copy, Debug, PartialEq, Eq)]
 pub(crate) struct Homes {
     marks: [bool; 16],
-    count: u16,
 }
 
 // Whether the life that begins at a place of the commands offers more packets than a ring has places. This hashes no flow.
@@ -32,18 +31,12 @@ fn offers_many<S: Scheme, H: FlowHash>(assignment: Assignment<'_, S, H>, from: u
 impl Homes {
     // No workers.
     fn none() -> Homes {
-        Homes {
-            marks: [false; 16],
-            count: 0,
-        }
+        Homes { marks: [false; 16] }
     }
 
     // All workers.
     fn all() -> Homes {
-        Homes {
-            marks: [true; 16],
-            count: 16,
-        }
+        Homes { marks: [true; 16] }
     }
 
     // Marks the home of a packet, if it has a flow.
@@ -53,10 +46,17 @@ impl Homes {
         };
         let hash = assignment.setup.hash();
         let at = home(&hash, flow, assignment.setup.workers()) as usize;
-        if !self.marks[at] {
-            self.marks[at] = true;
-            self.count = self.count.saturating_add(1);
+        self.marks[at] = true;
+    }
+
+    // Whether each of so many workers is one of them.
+    fn have_all(&self, workers: u16) -> bool {
+        for worker in 0..workers {
+            if !self.have(worker) {
+                return false;
+            }
         }
+        true
     }
 
     /// Those of the life that begins at a place of the commands.
@@ -74,7 +74,7 @@ impl Homes {
                 Command::Publish(_) => (),
                 Command::Restart | Command::Stop => return homes,
             }
-            if homes.count >= assignment.setup.workers() {
+            if homes.have_all(assignment.setup.workers()) {
                 return homes;
             }
         }
@@ -87,10 +87,5 @@ impl Homes {
             Some(mark) => *mark,
             None => true,
         }
-    }
-
-    /// Whether there are none.
-    pub(crate) fn are_none(&self) -> bool {
-        self.count == 0
     }
 }

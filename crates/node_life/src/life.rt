@@ -1,5 +1,5 @@
 //! One life of a node: its threads are started, fed and joined.
-ghost use Rattle.std.specs.Prelude.{◌≡◌, ◌≢◌, ◌+◌, length, Some, None, IfOk, IfErr, IfSome, IsErrOf, MatchResult, All};
+ghost use Rattle.std.specs.Prelude.{◌≡◌, ◌+◌, length, None, IfOk, IfErr, IfSome, IsErrOf, MatchResult, All};
 ghost use Rattle.cluster_core.specs.Setups.{rules_for};
 ghost use Rattle.thread_roles.specs.Counts.{IsWork};
 ghost use Rattle.thread_roles.specs.Faults.{IsRefusal};
@@ -9,8 +9,7 @@ ghost use Rattle.node_life.specs.Told.{LifeTells};
 
 use crate::begun::Begun;
 use crate::ends::{end_driven, numbered};
-use crate::homes::Homes;
-use crate::rings::Laid;
+use crate::rings::{Kit, Laid};
 use connection_table::ConnTable;
 use hash_laws::FlowHash;
 use rtrb::Consumer;
@@ -21,8 +20,8 @@ use std::sync::Wait;
 use std::thread::{JoinHandle, PromisedHandle, Scope, Threads};
 use std::{fmt, thread};
 use thread_roles::{
-    CountsOwn, Desk, Gate, Inputs, NodePlan, Outfit, Output, Progress, RunFault, Serving, Stage,
-    WorkerRun, drive, gather, stops_at, work,
+    CountsOwn, Desk, Gate, Inputs, NodePlan, Outfit, Output, Part, Progress, RunFault, Serving,
+    Stage, WorkerRun, drive, first_of, gather, idle_run, stops_at, work,
 };
 
 // What a worker's thread answers: what it did, or why it did not do all.
@@ -46,18 +45,18 @@ impl<S: Scheme, B: Names> fmt::Debug for LifeRun<S, B> {
     }
 }
 
-// A worker of a life: its thread, or what it owns where it needs none, since no packet can be placed on it. A thread costs more
-// than all else that a life without packets does.
+// A worker of a life: its thread, or its part of the counts where it needs none, since no packet can be placed on it. A thread
+// costs more than all else that a life without packets does.
 #[derive(Drop)]
-enum Hand<'e, S: Scheme, T: ConnTable, B: Names> {
+enum Hand<S: Scheme, T: ConnTable, B: Names> {
     Started(PromisedHandle<Answer<S, T, B>, CountsOwn>),
-    Spared(Outfit<'e, S, B>),
+    Spared(Part<B>),
 }
 
 // The workers of a life in the order of their numbers, and why not all were had.
 #[derive(Drop)]
-struct Started<'e, S: Scheme, T: ConnTable, B: Names> {
-    hands: Vec<Hand<'e, S, T, B>>,
+struct Started<S: Scheme, T: ConnTable, B: Names> {
+    hands: Vec<Hand<S, T, B>>,
     fault: Option<RunFault>,
 }
 
@@ -77,7 +76,7 @@ fn start_one<
     alloc: Global,
     plan: NodePlan<'e, S, H, G, B>,
     outfit: Outfit<'e, S, B>,
-) -> Option<Hand<'e, S, T, B>>
+) -> Option<Hand<S, T, B>>
 where
     S::Prepared: Send + Sync,
 {
@@ -107,24 +106,22 @@ fn start<
     rt: &'e R,
     alloc: Global,
     plan: NodePlan<'e, S, H, G, B>,
-    homes: &Homes,
-    outfits: Vec<Outfit<'e, S, B>>,
-) -> Started<'e, S, T, B>
+    kits: Vec<Kit<'e, S, B>>,
+) -> Started<S, T, B>
 where
     S::Prepared: Send + Sync,
-    ensures all { result.fault ≡ None → length result.hands.items ≡ length outfits.entry.items }
+    ensures all { result.fault ≡ None → length result.hands.items ≡ length kits.entry.items }
     ensures fault { IfSome result.fault (λ fault. IsRefusal fault) }
 {
     let mut hands = Vec::new(alloc);
-    for outfit in outfits {
+    for kit in kits {
         if hands.reserve(1).is_err() {
             let fault = Some(RunFault::Memory);
             return Started { hands, fault };
         }
-        let hand = if homes.have(outfit.number) {
-            start_one::<S, H, T, G, B, R>(scope, rt, alloc, plan, outfit)
-        } else {
-            Some(Hand::Spared(outfit))
+        let hand = match kit {
+            Kit::Home(outfit) => start_one::<S, H, T, G, B, R>(scope, rt, alloc, plan, outfit),
+            Kit::Spared(part) => Some(Hand::Spared(part)),
         };
         match hand {
             Some(hand) => hands.push_reserved(hand),
@@ -144,31 +141,21 @@ struct Joined<S: Scheme, T: ConnTable, B: Names> {
     fault: Option<RunFault>,
 }
 
-// The fault that comes first of two.
-fn first_of(fault: Option<RunFault>, other: RunFault) -> RunFault
-    ensures memory { fault ≡ Some Memory → result ≡ Memory }
-    ensures other { fault ≢ Some Memory → result ≡ other }
-    ensures refusal { IsRefusal other → IsRefusal result }
-{
-    match fault {
-        Some(RunFault::Memory) => RunFault::Memory,
-        _ => other,
-    }
-}
-
-// What a worker did: its thread is joined. One that was spared does here what its thread would have done: it finds that its ring
-// is closed, or that it is to halt.
+// What a worker did: its thread is joined. One that was spared has handled and counted nothing.
 fn end_one<S: Scheme, H: FlowHash, T: ConnTable, G: Gate, B: Names, R: Threads + Wait>(
     rt: &R,
     alloc: Global,
     plan: NodePlan<'_, S, H, G, B>,
-    hand: Hand<'_, S, T, B>,
+    hand: Hand<S, T, B>,
 ) -> Result<WorkerRun<S, T, B>, RunFault>
     ensures { MatchResult result (λ w. IsWork w.record w.tally.lost w.tally.shares) (λ fault. IsRefusal fault) }
 {
     match hand {
         Hand::Started(handle) => handle.join(rt),
-        Hand::Spared(outfit) => work(rt, alloc, plan, outfit),
+        Hand::Spared(part) => match idle_run(alloc, plan, part) {
+            Ok(run) => Ok(run),
+            Err(_) => Err(RunFault::Memory),
+        },
     }
 }
 
@@ -178,7 +165,7 @@ fn join_one<S: Scheme, H: FlowHash, T: ConnTable, G: Gate, B: Names, R: Threads 
     alloc: Global,
     plan: NodePlan<'_, S, H, G, B>,
     joined: &mut Joined<S, T, B>,
-    hand: Hand<'_, S, T, B>,
+    hand: Hand<S, T, B>,
 )
     ensures of { All (λ w. IsWork w.record w.tally.lost w.tally.shares) joined.old.runs.items
         → All (λ w. IsWork w.record w.tally.lost w.tally.shares) joined.new.runs.items }
@@ -199,10 +186,10 @@ fn join_all<S: Scheme, H: FlowHash, T: ConnTable, G: Gate, B: Names, R: Threads 
     rt: &R,
     alloc: Global,
     plan: NodePlan<'_, S, H, G, B>,
-    hands: Vec<Hand<'_, S, T, B>>,
+    hands: Vec<Hand<S, T, B>>,
 ) -> Result<Vec<WorkerRun<S, T, B>>, RunFault>
     ensures of { IfOk result (λ v. All (λ w. IsWork w.record w.tally.lost w.tally.shares) v.items) }
-    ensures all { IfOk result (λ v. length v.items ≡ length hands.entry.items) }
+    ensures all { IfOk result (λ v. length v.items ≡ length hands.items) }
     ensures fault { IfErr result (λ fault. IsRefusal fault) }
 {
     let mut joined = Joined {
@@ -225,7 +212,7 @@ fn give_up<S: Scheme, H: FlowHash, T: ConnTable, G: Gate, B: Names, R: Threads +
     alloc: Global,
     plan: NodePlan<'_, S, H, G, B>,
     inputs: &mut Inputs,
-    hands: Vec<Hand<'_, S, T, B>>,
+    hands: Vec<Hand<S, T, B>>,
     fault: RunFault,
 ) -> RunFault
     ensures { IsRefusal fault → IsRefusal result }
@@ -267,28 +254,25 @@ fn told_first<P: Drop>(driven: Result<P, RunFault>, fault: RunFault) -> RunFault
     }
 }
 
-// Who gathers what the workers send: a thread, or nobody yet where no worker has one.
+// Who gathers what the workers send: a thread, or nobody where no worker has one.
 #[derive(Drop)]
 enum Mux {
     Started(JoinHandle<Result<Vec<Serving>, AllocError>>),
-    Spared(Vec<Consumer<Output>>),
+    Spared,
 }
 
-// All that was gathered. Where the mux was spared each worker has sent its last word, and nothing else.
+// All that was gathered.
 fn end_mux<R: Threads + Wait>(rt: &R, alloc: Global, mux: Mux) -> Result<Vec<Serving>, AllocError> {
     match mux {
         Mux::Started(handle) => handle.join(rt),
-        Mux::Spared(outputs) => {
-            let mut outputs = outputs;
-            gather(rt, alloc, &mut outputs)
-        }
+        Mux::Spared => Ok(Vec::new(alloc)),
     }
 }
 
 // The workers of a life, of which none is missing, who gathers what they send, and the rings that feed them.
 #[derive(Drop)]
-struct Crew<'e, S: Scheme, T: ConnTable, B: Names> {
-    hands: Vec<Hand<'e, S, T, B>>,
+struct Crew<S: Scheme, T: ConnTable, B: Names> {
+    hands: Vec<Hand<S, T, B>>,
     mux: Mux,
     inputs: Inputs,
 }
@@ -307,10 +291,10 @@ fn drive_crew<
     alloc: Global,
     life: Begun<'_, S, H, G, B>,
     stage: Stage<S, W>,
-    crew: Crew<'_, S, T, B>,
+    crew: Crew<S, T, B>,
 ) -> Result<LifeRun<S, B>, RunFault>
     ensures { let rules = rules_for (λ s z. S.pick s z) (λ h. H.plain h) life.entry.asked.setup life.entry.asked.catalogue in
-        let parts = life.entry.parts + length crew.entry.hands.items in
+        let parts = life.entry.parts + length crew.hands.items in
         MatchResult result
         (λ r. IsLived rules life.entry.asked life.entry.start parts r.progress.at r.progress.journal r.progress.tally.lost r.progress.tally.shares)
         (λ fault. LifeTells (λ a b. S.eq a b) rules life.entry.asked life.entry.start fault) }
@@ -337,16 +321,15 @@ fn drive_crew<
     }
 }
 
-// Starts the mux's thread where a worker has one.
+// Starts the mux's thread where a worker has one, and so a ring to the mux.
 fn start_mux<'s, 'e: 's, R: Threads + Wait + Sync + 'e>(
     scope: &Scope<'s, &'e ()>,
     rt: &'e R,
     alloc: Global,
-    homes: &Homes,
     outputs: Vec<Consumer<Output>>,
 ) -> Option<Mux> {
-    if homes.are_none() {
-        return Some(Mux::Spared(outputs));
+    if outputs.is_empty() {
+        return Some(Mux::Spared);
     }
     match scope.spawn(move || {
         let mut outputs = outputs;
@@ -372,26 +355,25 @@ fn start_crew<
     rt: &'e R,
     alloc: Global,
     plan: NodePlan<'e, S, H, G, B>,
-    homes: &Homes,
     laid: Laid<'e, S, B>,
-) -> Result<Crew<'e, S, T, B>, RunFault>
+) -> Result<Crew<S, T, B>, RunFault>
 where
     S::Prepared: Send + Sync,
-    ensures all { IfOk result (λ crew. length crew.hands.items ≡ length laid.entry.outfits.items) }
+    ensures all { IfOk result (λ crew. length crew.hands.items ≡ length laid.entry.kits.items) }
     ensures fault { IfErr result (λ fault. IsRefusal fault) }
 {
     let Laid {
-        outfits,
+        kits,
         inputs,
         outputs,
     } = laid;
     let mut inputs = inputs;
-    let started: Started<'e, S, T, B> = start(scope, rt, alloc, plan, homes, outfits);
+    let started: Started<S, T, B> = start(scope, rt, alloc, plan, kits);
     let Started { hands, fault } = started;
     if let Some(fault) = fault {
         return Err(give_up(rt, alloc, plan, &mut inputs, hands, fault));
     }
-    let Some(mux) = start_mux(scope, rt, alloc, homes, outputs) else {
+    let Some(mux) = start_mux(scope, rt, alloc, outputs) else {
         let fault = RunFault::ThreadLost;
         return Err(give_up(rt, alloc, plan, &mut inputs, hands, fault));
     };
@@ -420,20 +402,12 @@ where
     S::Prepared: Send + Sync,
     ensures { let life = life.entry in
         let rules = rules_for (λ s z. S.pick s z) (λ h. H.plain h) life.asked.setup life.asked.catalogue in
-        let parts = life.parts + length laid.entry.outfits.items in
+        let parts = life.parts + length laid.entry.kits.items in
         MatchResult result
         (λ r. IsLived rules life.asked life.start parts r.progress.at r.progress.journal r.progress.tally.lost r.progress.tally.shares)
         (λ fault. LifeTells (λ a b. S.eq a b) rules life.asked life.start fault) }
 {
-    let homes = life.homes();
-    let crew: Result<Crew<'e, S, T, B>, RunFault> = start_crew(
-        scope,
-        rt,
-        alloc,
-        life.plan(),
-        &homes,
-        laid,
-    );
+    let crew: Result<Crew<S, T, B>, RunFault> = start_crew(scope, rt, alloc, life.plan(), laid);
     match crew {
         Ok(crew) => drive_crew(rt, alloc, life, stage, crew),
         Err(fault) => Err(fault),
@@ -463,7 +437,7 @@ where
     S::Prepared: Send + Sync,
     ensures { let life = life.entry in
         let rules = rules_for (λ s z. S.pick s z) (λ h. H.plain h) life.asked.setup life.asked.catalogue in
-        let parts = life.parts + length laid.entry.outfits.items in
+        let parts = life.parts + length laid.entry.kits.items in
         MatchResult result
         (λ r. IsLived rules life.asked life.start parts r.progress.at r.progress.journal r.progress.tally.lost r.progress.tally.shares)
         (λ fault. LifeTells (λ a b. S.eq a b) rules life.asked life.start fault) }
@@ -474,7 +448,7 @@ where
         move |scope| -> Result<LifeRun<S, B>, RunFault>
             ensures { let life = life.entry in
                 let rules = rules_for (λ s z. S.pick s z) (λ h. H.plain h) life.asked.setup life.asked.catalogue in
-                let parts = life.parts + length laid.entry.outfits.items in
+                let parts = life.parts + length laid.entry.kits.items in
                 MatchResult result
                 (λ r. IsLived rules life.asked life.start parts r.progress.at r.progress.journal r.progress.tally.lost r.progress.tally.shares)
                 (λ fault. LifeTells (λ a b. S.eq a b) rules life.asked life.start fault) }

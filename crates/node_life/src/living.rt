@@ -8,8 +8,9 @@ ghost use Rattle.thread_roles.specs.Shown.{number_of};
 ghost use Rattle.node_life.specs.Told.{LifeTells};
 
 use crate::begun::{Begun, Life};
+use crate::homes::Homes;
 use crate::life::{LifeRun, run_life};
-use crate::rings::lay_all;
+use crate::rings::{lay, post_all};
 use connection_table::ConnTable;
 use hash_laws::FlowHash;
 use selection::Scheme;
@@ -48,8 +49,8 @@ fn staged<'e, S: Scheme, R: Wait>(
     Ok(stage)
 }
 
-/// One life: a board, rings and a part of the counts for each worker, and the threads. Nothing is answered before all threads are
-/// joined.
+/// One life: a board, a part of the counts for each worker, rings for those on which packets may be placed, and the threads. Nothing
+/// is answered before all threads are joined.
 pub fn live<
     'e,
     S: Scheme + Send + Sync + 'e,
@@ -74,8 +75,9 @@ where
     let first = newest_number(&progress.newest);
     let (board, publisher, seats) = WordBoard::new(alloc, workers, first)?;
     let stage = staged(rt, alloc, workers, &progress.newest)?;
-    let tally = &mut progress.tally;
-    let laid = lay_all(alloc, &board, &stage, seats, plan.assignment.ring, tally)?;
+    let homes = Homes::of_life(plan.assignment, progress.at);
+    let posts = post_all(alloc, &board, &stage, seats, &homes)?;
+    let laid = lay(alloc, posts, plan.assignment.ring, &mut progress.tally)?;
     let life = Begun::new(Life::new(plan, progress), &board, publisher);
     run_life::<S, H, T, G, B, R>(rt, alloc, life, laid, stage)
 }

@@ -1,68 +1,89 @@
-//! What a life of a node is laid out with, before its threads start: for each worker a ring from the driver, a ring to the mux, a
-//! place to read versions, and a part of the counts.
+//! What a life of a node is laid out with, before its threads start: for each worker a part of the counts, and for one on which
+//! packets may be placed a ring from the driver, a ring to the mux, and a place to read versions.
 ghost use Rattle.std.specs.Prelude.{◌≡◌, ◌<◌, ◌+◌, length, IfOk, IfErr, OnOk, All};
 ghost use Rattle.thread_roles.specs.Faults.{IsRefusal};
 ghost use Rattle.thread_roles.specs.declared.fault.RunFault.TheVariants.{ThreadLost};
 ghost use Rattle.version_board.specs.Seats.{IsWatcherOf};
 
-use left_right::ReadHandle;
+use crate::homes::Homes;
 use rtrb::{Consumer, RingBuffer};
 use selection::Scheme;
 use stats_book::Names;
 use std::alloc::{AllocError, Global};
 use std::fmt;
 use std::sync::Wait;
-use thread_roles::{Current, Inputs, Outfit, Output, Part, Post, RunFault, Stage, ThreadShares};
+use thread_roles::{Inputs, Outfit, Output, Part, Post, RunFault, Stage, ThreadShares};
 use version_board::{Watcher, WordBoard};
 
-/// The rings of a life: what its workers own, the driver's ends and the mux's ends.
+/// What a life has for a worker.
+#[derive(Drop)]
+pub(crate) enum Kit<'a, S: Scheme, B: Names> {
+    /// All that it needs to serve packets.
+    Home(Outfit<'a, S, B>),
+    /// Its part of the counts, since no packet can be placed on it.
+    Spared(Part<B>),
+}
+
+/// What a life is laid out with: what its workers own, the driver's ends of the rings and the mux's ends.
 #[derive(Drop)]
 pub(crate) struct Laid<'a, S: Scheme, B: Names> {
     /// One for each worker.
-    pub outfits: Vec<Outfit<'a, S, B>>,
-    /// The driver's ends.
+    pub kits: Vec<Kit<'a, S, B>>,
+    /// The driver's ends, at the numbers of the workers that have rings.
     pub inputs: Inputs,
-    /// The mux's ends.
+    /// The mux's ends, one for each of these workers.
     pub outputs: Vec<Consumer<Output>>,
 }
 
 impl<S: Scheme, B: Names> fmt::Debug for Laid<'_, S, B> {
     fn fmt<W: fmt::Write>(&self, f: &mut fmt::Formatter<W>) -> fmt::Result {
         f.debug_struct("Laid")
-            .field("outfits", &self.outfits)
+            .field("inputs", &self.inputs)
             .finish_non_exhaustive()
     }
 }
 
-// A worker's place to read versions. One that isn't had is a thread that couldn't be started.
-fn reader_of<S: Scheme, R: Wait + Drop>(
+// A worker's seat with a place to read versions, if packets may be placed on the worker. Where that place isn't had its thread
+// counts as one that couldn't be started.
+fn post_of<'a, S: Scheme, R: Wait + Drop>(
+    board: &'a WordBoard,
     stage: &Stage<S, R>,
-) -> Result<ReadHandle<Current<S>>, RunFault>
+    seat: Watcher,
+    home: bool,
+) -> Result<Option<Post<'a, S>>, RunFault>
+    requires { IsWatcherOf board.now seat }
     ensures { IfErr result (λ fault. fault ≡ ThreadLost) }
 {
+    if !home {
+        return Ok(None);
+    }
     match stage.handle() {
-        Ok(reader) => Ok(reader),
+        Ok(reader) => Ok(Some(Post::new(board, seat, reader))),
         Err(_) => Err(RunFault::ThreadLost),
     }
 }
 
-// What the workers see of their driver's versions: for each seat of the board a place to read.
-fn post_all<'a, S: Scheme, R: Wait + Drop>(
+/// What the workers see of their driver's versions: for each seat of the board a place to read, where packets may be placed on its
+/// worker. The only faults are Memory, and ThreadLost where a worker has no place to read.
+pub(crate) fn post_all<'a, S: Scheme, R: Wait + Drop>(
     alloc: Global,
     board: &'a WordBoard,
     stage: &Stage<S, R>,
     seats: Vec<Watcher>,
-) -> Result<Vec<Post<'a, S>>, RunFault>
+    homes: &Homes,
+) -> Result<Vec<Option<Post<'a, S>>>, RunFault>
     requires { All (λ w. IsWatcherOf board.now w) seats.items }
     ensures posts { IfOk result (λ v. length v.items ≡ length seats.items) }
     ensures fault { IfErr result (λ fault. IsRefusal fault) }
 {
     let mut posts = Vec::new(alloc);
+    let mut number = 0u16;
     for seat in seats {
-        let reader = reader_of(stage)?;
-        let Ok(()) = posts.push(Post::new(board, seat, reader)) else {
+        let post = post_of(board, stage, seat, homes.have(number))?;
+        let Ok(()) = posts.push(post) else {
             return Err(RunFault::Memory);
         };
+        number = number.wrapping_add(1);
     }
     Ok(posts)
 }
@@ -70,10 +91,10 @@ fn post_all<'a, S: Scheme, R: Wait + Drop>(
 impl<'a, S: Scheme, B: Names> Laid<'a, S, B> {
     // Nothing for no worker.
     fn empty(alloc: Global) -> Laid<'a, S, B>
-        ensures { length result.outfits.items ≡ 0 }
+        ensures { length result.kits.items ≡ 0 }
     {
         Laid {
-            outfits: Vec::new(alloc),
+            kits: Vec::new(alloc),
             inputs: Inputs {
                 rings: Vec::new(alloc),
             },
@@ -81,7 +102,16 @@ impl<'a, S: Scheme, B: Names> Laid<'a, S, B> {
         }
     }
 
-    // The rings of one worker more, each of so many places, and what it owns.
+    // One worker more, which needs no ring.
+    fn spare(&mut self, part: Part<B>) -> Result<(), AllocError>
+        ensures { OnOk result (length self.new.kits.items ≡ length self.old.kits.items + 1) }
+    {
+        self.inputs.rings.push(None)?;
+        self.kits.push(Kit::Spared(part))?;
+        Ok(())
+    }
+
+    // One worker more, with its rings, each of so many places.
     fn add(
         &mut self,
         alloc: Global,
@@ -90,32 +120,32 @@ impl<'a, S: Scheme, B: Names> Laid<'a, S, B> {
         part: Part<B>,
         number: u16,
     ) -> Result<(), AllocError>
-        ensures { OnOk result (length self.new.outfits.items ≡ length self.old.outfits.items + 1) }
+        ensures { OnOk result (length self.new.kits.items ≡ length self.old.kits.items + 1) }
     {
         let (input, ring) = RingBuffer::new(alloc, places as usize)?;
-        self.inputs.rings.push(input)?;
+        self.inputs.rings.push(Some(input))?;
         let (out, output) = RingBuffer::new(alloc, places as usize)?;
         self.outputs.push(output)?;
-        self.outfits.push(Outfit {
+        self.kits.push(Kit::Home(Outfit {
             post,
             ring,
             out,
             part,
             number,
-        })?;
+        }))?;
         Ok(())
     }
 }
 
-// The rings of a life, each of so many places, and what its workers own.
-fn lay<'a, S: Scheme, B: Names>(
+/// What the workers of a life own, with a part of the counts for each. One that has a post gets rings, each of so many places.
+pub(crate) fn lay<'a, S: Scheme, B: Names>(
     alloc: Global,
-    posts: Vec<Post<'a, S>>,
+    posts: Vec<Option<Post<'a, S>>>,
     places: u32,
     tally: &mut ThreadShares<B>,
 ) -> Result<Laid<'a, S, B>, AllocError>
     requires { length posts.items < tally.old.shares.parts }
-    ensures outfits { IfOk result (λ l. length l.outfits.items ≡ length posts.entry.items) }
+    ensures kits { IfOk result (λ l. length l.kits.items ≡ length posts.entry.items) }
     ensures parts { OnOk result (tally.new.shares.parts + length posts.entry.items ≡ tally.old.shares.parts) }
     ensures same { OnOk result ((tally.new.shares ≡ record tally.old.shares { parts = tally.new.shares.parts }) × (tally.new.lost ≡ tally.old.lost)) }
 {
@@ -123,32 +153,11 @@ fn lay<'a, S: Scheme, B: Names>(
     let mut number = 0u16;
     for post in posts {
         let part = tally.part();
-        laid.add(alloc, post, places, part, number)?;
+        match post {
+            Some(post) => laid.add(alloc, post, places, part, number)?,
+            None => laid.spare(part)?,
+        }
         number = number.wrapping_add(1);
     }
     Ok(laid)
-}
-
-/// For each seat of the board a place to read versions, its rings, each of so many places, and a part of the counts. The only
-/// faults are Memory, and ThreadLost where a worker has no place to read.
-pub(crate) fn lay_all<'a, S: Scheme, R: Wait + Drop, B: Names>(
-    alloc: Global,
-    board: &'a WordBoard,
-    stage: &Stage<S, R>,
-    seats: Vec<Watcher>,
-    places: u32,
-    tally: &mut ThreadShares<B>,
-) -> Result<Laid<'a, S, B>, RunFault>
-    requires watchers { All (λ w. IsWatcherOf board.now w) seats.items }
-    requires enough { length seats.items < tally.old.shares.parts }
-    ensures outfits { IfOk result (λ l. length l.outfits.items ≡ length seats.items) }
-    ensures parts { OnOk result (tally.new.shares.parts + length seats.items ≡ tally.old.shares.parts) }
-    ensures same { OnOk result ((tally.new.shares ≡ record tally.old.shares { parts = tally.new.shares.parts }) × (tally.new.lost ≡ tally.old.lost)) }
-    ensures fault { IfErr result (λ fault. IsRefusal fault) }
-{
-    let posts = post_all(alloc, board, stage, seats)?;
-    match lay(alloc, posts, places, tally) {
-        Ok(laid) => Ok(laid),
-        Err(_) => Err(RunFault::Memory),
-    }
 }

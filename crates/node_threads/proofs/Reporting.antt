@@ -6,14 +6,14 @@ use Rattle.cluster_node.specs.Rules.{Rules}
 use Rattle.thread_records.specs.declared.command.Command.{Command}
 use Rattle.thread_records.specs.declared.nodes.NodeRecord.{NodeRecord}
 use Rattle.thread_records.specs.Runs.{IsRunOf}
-use Rattle.thread_roles.specs.Faults.{IsRefusal}
+use Rattle.thread_roles.specs.Faults.{IsRefusal, rank_of, first_fault}
 use Rattle.thread_roles.specs.Going.{Asked}
 use Rattle.thread_roles.specs.declared.fault.RunFault.{RunFault}
 use Rattle.thread_roles.specs.declared.fault.RunFault.TheVariants.{Foreign, RingLost, ThreadLost, BookLost, Memory}
 use Rattle.node_threads.specs.Orders.{AllAsked, asked_one}
-use Rattle.node_threads.specs.Reported.{IsTold, AreTold, rank_of, ComesFirst, ClusterTells}
+use Rattle.node_threads.specs.Reported.{IsTold, AreTold, ComesFirst, ClusterTells}
 use Rattle.node_threads.specs.Told.{NodeTells}
-use Rattle.node_threads.specs.PrivateClusters.{first_fault, fault_in, IsSumUp}
+use Rattle.node_threads.specs.PrivateClusters.{fault_in, IsSumUp}
 
 same_fault : (a b : RunFault) → Some a ≡ Some b → a ≡ b
 same_fault a b e = cc

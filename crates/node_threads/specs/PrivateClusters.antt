@@ -1,5 +1,5 @@
 -- The nodes of a cluster by number, their runs with what was counted on all of them, and the first of their faults.
-use Rattle.std.specs.Prelude.{◌≡◌, ℕ, ◌+◌, true, List, [], ◌∷◌, Option, Some, None, Result, Ok, Err, nat_le, if◌then◌else◌, Contains}
+use Rattle.std.specs.Prelude.{◌≡◌, ℕ, ◌+◌, true, List, [], ◌∷◌, Option, Some, None, Result, Ok, Err, Contains}
 use Rattle.stats_book.specs.declared.stats.Stats.{Stats}
 use Rattle.cluster_node.specs.Rules.{Rules}
 use Rattle.thread_records.specs.declared.command.Command.{Command}
@@ -11,17 +11,12 @@ use Rattle.thread_roles.specs.Counts.{AreRead, AreTotals}
 use Rattle.thread_roles.specs.declared.fault.RunFault.{RunFault}
 use Rattle.thread_roles.specs.declared.fault.RunFault.TheVariants.{Foreign, RingLost, ThreadLost, BookLost, Memory}
 use Rattle.node_threads.specs.Orders.{AllAsked}
-use Rattle.node_threads.specs.Reported.{rank_of, ComesFirst}
+use Rattle.node_threads.specs.Reported.{ComesFirst}
 
 -- these are the numbers from one on, in order
 abbrev pub AreNumbered : ℕ → List ℕ → Type 0
 AreNumbered k [] = Unit {0}
 AreNumbered k (n ∷ ns) = (n ≡ k) × AreNumbered (k + 1) ns
-
--- the one of two that is told
-abbrev pub first_fault : Option RunFault → RunFault → RunFault
-first_fault None b = b
-first_fault (Some a) b = if nat_le (rank_of a) (rank_of b) then a else b
 
 -- why there is no answer, if there is none
 abbrev pub fault_in : {A : Type 0} → Result A RunFault → Option RunFault

@@ -4,6 +4,7 @@ use Rattle.cluster_node.specs.Rules.{Rules}
 use Rattle.thread_records.specs.declared.command.Command.{Command}
 use Rattle.thread_records.specs.declared.nodes.NodeRecord.{NodeRecord}
 use Rattle.thread_records.specs.Runs.{IsRunOf}
+use Rattle.thread_roles.specs.Faults.{rank_of}
 use Rattle.thread_roles.specs.Going.{Asked}
 use Rattle.thread_roles.specs.declared.fault.RunFault.{RunFault}
 use Rattle.thread_roles.specs.declared.fault.RunFault.TheVariants.{Foreign, RingLost, ThreadLost, BookLost, Memory}
@@ -21,14 +22,6 @@ AreTold eq rules all node [] [] = Unit {0}
 AreTold eq rules all node [] (f ∷ fs) = ⊥
 AreTold eq rules all node (cs ∷ css) [] = ⊥
 AreTold eq rules all node (cs ∷ css) (f ∷ fs) = IsTold eq rules (asked_one all node cs) f × AreTold eq rules all (node + 1) css fs
-
--- the order in which faults are reported
-abbrev pub rank_of : RunFault → ℕ
-rank_of Memory = 0
-rank_of ThreadLost = 1
-rank_of Foreign = 2
-rank_of RingLost = 3
-rank_of BookLost = 4
 
 -- a fault is one of these, and none of them comes before it
 pub record ComesFirst (fault : RunFault) (fs : List (Option RunFault)) : Type 0 where

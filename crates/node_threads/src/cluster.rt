@@ -20,8 +20,8 @@ ghost use Rattle.thread_roles.specs.declared.fault.RunFault.{RunFault};
 ghost use Rattle.node_threads.specs.declared.run.LeanRun.{LeanRun};
 ghost use Rattle.node_threads.specs.Handed.{IsCounted};
 ghost use Rattle.node_threads.specs.Orders.{asked_all, asked_each, asked_one};
-ghost use Rattle.node_threads.specs.PrivateClusters.{AreNumbered, AreCounted, first_fault, fault_in, IsSumUp};
-ghost use Rattle.node_threads.specs.Reported.{rank_of, ClusterTells};
+ghost use Rattle.node_threads.specs.PrivateClusters.{AreNumbered, AreCounted, fault_in, IsSumUp};
+ghost use Rattle.node_threads.specs.Reported.{ClusterTells};
 ghost use Rattle.node_threads.specs.Told.{NodeTells};
 
 use crate::node::run_order;
@@ -40,7 +40,7 @@ use std::sync::Wait;
 use std::thread;
 use std::thread::{Promise, PromisedHandle, Scope, Threads};
 use thread_records::{Command, History, LeanRecord, NodeRecord, join_runs, open_all};
-use thread_roles::{Gate, RunFault};
+use thread_roles::{Gate, RunFault, first_of};
 
 /// What the nodes of a cluster did, each for itself.
 #[derive(Debug, Drop)]
@@ -164,29 +164,6 @@ struct Joined {
     nodes: Vec<LeanRecord>,
     stats: Stats,
     fault: Option<RunFault>,
-}
-
-// The place of a fault in the order in which faults are reported.
-fn rank(fault: RunFault) -> u8
-    ensures { result ≡ rank_of fault }
-{
-    match fault {
-        RunFault::Memory => 0,
-        RunFault::ThreadLost => 1,
-        RunFault::Foreign => 2,
-        RunFault::RingLost => 3,
-        RunFault::BookLost => 4,
-    }
-}
-
-// The fault of two that is reported.
-fn first_of(fault: Option<RunFault>, other: RunFault) -> RunFault
-    ensures { result ≡ first_fault fault other }
-{
-    match fault {
-        Some(fault) if rank(fault) <= rank(other) => fault,
-        _ => other,
-    }
 }
 
 impl Joined {

@@ -1,11 +1,10 @@
 -- What is taken out of rings, and what is pushed into them.
-use Rattle.std.proofs.Common.{◌≡◌, ℕ, zero, suc, ◌+◌, ◌<◌, ◌≤◌, List, [], ◌∷◌, ◌++◌, length, map, set, get_or, refl, sym, ap, ◌∙◌, arith}
-use Rattle.std.specs.Prelude.{slice_index}
+use Rattle.std.proofs.Common.{◌≡◌, Bool, true, false, ℕ, zero, suc, ◌+◌, ◌<◌, ◌≤◌, List, [], ◌∷◌, ◌++◌, length, map, set, get_or, refl, sym, ap, ◌∙◌, arith}
+use Rattle.std.specs.Prelude.{slice_index, MatchBool}
 use Rattle.std.proofs.lemmas.List.{map-set, set-get_or, get_or-map, get_or-set_same, length-map}
 use Rattle.rtrb.specs.declared.consumer.Consumer.{Consumer}
 use Rattle.rtrb.specs.Ring.{received}
 use Rattle.thread_roles.specs.declared.ring.Output.{Output}
-use Rattle.thread_roles.specs.Pushed.{put_in}
 use Rattle.thread_roles.specs.Taken.{weigh, taken}
 
 pub weigh_push : {X : Type 0} (f : X → ℕ) (xs : List X) (x : X) → weigh f (xs ++ x ∷ []) ≡ weigh f xs + f x
@@ -30,51 +29,56 @@ taken_same f rings i old new h is same =
     let m = weigh-set (λ r. weigh f (received r)) rings i old new 0 h (ap (λ l. weigh f l) same ∙ ap (λ r. weigh f (received r)) is ∙ omega arith) in
     omega (arith, m)
 
--- one list of those that a list of records has, with one more element
-pub put_in_set : {V X : Type 0} (items : V → List X) (vs : List V) (w : ℕ) (old new : V) (x : X) → w < length vs → old ≡ get_or vs w old → items new ≡ items old ++ x ∷ [] → map items (set vs w new) ≡ put_in (map items vs) w x
-put_in_set items vs w old new x h is more =
-    map-set items vs w new
-    ∙ ap (λ l. set (map items vs) w l) (more ∙ ap (λ l. l ++ x ∷ []) (ap items is ∙ sym (get_or-map items vs w old [] h)))
+-- what one element of a list is seen as becomes what a function makes of it
+pub view_set : {V Y : Type 0} (view : V → Y) (vs : List V) (w : ℕ) (old new : V) (d : Y) (f : Y → Y) → w < length vs → old ≡ get_or vs w old → view new ≡ f (view old) → map view (set vs w new) ≡ set (map view vs) w (f (get_or (map view vs) w d))
+view_set view vs w old new d f h is more =
+    map-set view vs w new
+    ∙ ap (λ y. set (map view vs) w y) (more ∙ ap f (ap view is ∙ sym (get_or-map view vs w old d h)))
 
 -- the same where nothing came
-pub same_set : {V X : Type 0} (items : V → List X) (vs : List V) (w : ℕ) (old new : V) → w < length vs → old ≡ get_or vs w old → items new ≡ items old → map items (set vs w new) ≡ map items vs
-same_set items vs w old new h is same =
-    map-set items vs w new
-    ∙ ap (λ l. set (map items vs) w l) (same ∙ ap items is ∙ sym (get_or-map items vs w old [] h))
-    ∙ set-get_or (map items vs) w []
+same_set : {V Y : Type 0} (view : V → Y) (vs : List V) (w : ℕ) (old new : V) (d : Y) → w < length vs → old ≡ get_or vs w old → view new ≡ view old → map view (set vs w new) ≡ map view vs
+same_set view vs w old new d h is same =
+    view_set view vs w old new d (λ y. y) h is same
+    ∙ set-get_or (map view vs) w d
 
--- the first of these lists with one more element each
-abbrev pub grown : {X : Type 0} → X → ℕ → List (List X) → List (List X)
-grown x zero xss = xss
-grown x (suc n) [] = []
-grown x (suc n) (xs ∷ xss) = (xs ++ x ∷ []) ∷ grown x n xss
+-- the one or the other, as an answer tells
+pub offered_set : {V Y : Type 0} (view : V → Y) (vs : List V) (w : ℕ) (old new : V) (d : Y) (f : Y → Y) (b : Bool) → w < length vs → old ≡ get_or vs w old → MatchBool b (view new ≡ f (view old)) (view new ≡ view old)
+    → MatchBool b (map view (set vs w new) ≡ set (map view vs) w (f (get_or (map view vs) w d))) (map view (set vs w new) ≡ map view vs)
+offered_set view vs w old new d f true h is more = view_set view vs w old new d f h is more
+offered_set view vs w old new d f false h is same = same_set view vs w old new d h is same
 
-grown_at : {X : Type 0} (x : X) (xss : List (List X)) (n : ℕ) → n < length xss → get_or (grown x n xss) n [] ≡ get_or xss n []
-grown_at x [] n h = absurd (omega arith)
-grown_at x (xs ∷ xss) zero h = refl
-grown_at x (xs ∷ xss) (suc n) h = grown_at x xss n (omega arith)
+-- the first elements of a list, each as a function makes it
+abbrev pub first_mapped : {Y : Type 0} → (Y → Y) → ℕ → List Y → List Y
+first_mapped f zero ys = ys
+first_mapped f (suc n) [] = []
+first_mapped f (suc n) (y ∷ ys) = f y ∷ first_mapped f n ys
 
-grown_more : {X : Type 0} (x : X) (xss : List (List X)) (n : ℕ) → n < length xss → set (grown x n xss) n (get_or xss n [] ++ x ∷ []) ≡ grown x (suc n) xss
-grown_more x [] n h = absurd (omega arith)
-grown_more x (xs ∷ xss) zero h = refl
-grown_more x (xs ∷ xss) (suc n) h = ap (λ l. (xs ++ x ∷ []) ∷ l) (grown_more x xss n (omega arith))
+mapped_at : {Y : Type 0} (f : Y → Y) (ys : List Y) (n : ℕ) (d : Y) → n < length ys → get_or (first_mapped f n ys) n d ≡ get_or ys n d
+mapped_at f [] n d h = absurd (omega arith)
+mapped_at f (y ∷ ys) zero d h = refl
+mapped_at f (y ∷ ys) (suc n) d h = mapped_at f ys n d (omega arith)
 
-pub grown_all : {X : Type 0} (x : X) (xss : List (List X)) (n : ℕ) → length xss ≤ n → grown x n xss ≡ map (λ xs. xs ++ x ∷ []) xss
-grown_all x [] zero h = refl
-grown_all x [] (suc n) h = refl
-grown_all x (xs ∷ xss) zero h = absurd (omega arith)
-grown_all x (xs ∷ xss) (suc n) h = ap (λ l. (xs ++ x ∷ []) ∷ l) (grown_all x xss n (omega arith))
+mapped_more : {Y : Type 0} (f : Y → Y) (ys : List Y) (n : ℕ) (d : Y) → n < length ys → set (first_mapped f n ys) n (f (get_or ys n d)) ≡ first_mapped f (suc n) ys
+mapped_more f [] n d h = absurd (omega arith)
+mapped_more f (y ∷ ys) zero d h = refl
+mapped_more f (y ∷ ys) (suc n) d h = ap (λ l. f y ∷ l) (mapped_more f ys n d (omega arith))
 
-pub grow_step : {V X : Type 0} (items : V → List X) (vs start : List V) (n : ℕ) (old new : V) (x : X) → n < length start → length vs ≡ length start → old ≡ get_or vs n old → items new ≡ items old ++ x ∷ [] → map items vs ≡ grown x n (map items start) → map items (set vs n new) ≡ grown x (n + 1) (map items start)
-grow_step items vs start n old new x h same is more so_far =
-    let long : length (map items start) ≡ length start = length-map start items in
+pub mapped_all : {Y : Type 0} (f : Y → Y) (ys : List Y) (n : ℕ) → length ys ≤ n → first_mapped f n ys ≡ map f ys
+mapped_all f [] zero h = refl
+mapped_all f [] (suc n) h = refl
+mapped_all f (y ∷ ys) zero h = absurd (omega arith)
+mapped_all f (y ∷ ys) (suc n) h = ap (λ l. f y ∷ l) (mapped_all f ys n (omega arith))
+
+pub mapped_step : {V Y : Type 0} (view : V → Y) (vs start : List V) (n : ℕ) (old new : V) (d : Y) (f : Y → Y) → n < length start → length vs ≡ length start → old ≡ get_or vs n old → view new ≡ f (view old) → map view vs ≡ first_mapped f n (map view start) → map view (set vs n new) ≡ first_mapped f (n + 1) (map view start)
+mapped_step view vs start n old new d f h same is more so_far =
+    let long : length (map view start) ≡ length start = length-map start view in
     let one : suc n ≡ n + 1 = omega arith in
-    let was : items old ≡ get_or (map items start) n [] = ap items is ∙ sym (get_or-map items vs n old [] (omega (arith, same))) ∙ ap (λ l. get_or l n []) so_far ∙ grown_at x (map items start) n (omega arith) in
-    map-set items vs n new
-    ∙ ap (λ l. set (map items vs) n l) (more ∙ ap (λ l. l ++ x ∷ []) was)
-    ∙ ap (λ l. set l n (get_or (map items start) n [] ++ x ∷ [])) so_far
-    ∙ grown_more x (map items start) n (omega arith)
-    ∙ ap (λ k. grown x k (map items start)) one
+    let was : get_or (map view vs) n d ≡ get_or (map view start) n d = ap (λ l. get_or l n d) so_far ∙ mapped_at f (map view start) n d (omega arith) in
+    view_set view vs n old new d f (omega (arith, same)) is more
+    ∙ ap (λ y. set (map view vs) n (f y)) was
+    ∙ ap (λ l. set l n (f (get_or (map view start) n d))) so_far
+    ∙ mapped_more f (map view start) n d (omega arith)
+    ∙ ap (λ k. first_mapped f k (map view start)) one
 
 -- what was written is at its place
 pub number_set : {V : Type 0} (number : V → ℕ) (vs : List V) (w : ℕ) (new : V) → w < length vs → number new ≡ 0 → slice_index (map number (set vs w new)) w ≡ 0

@@ -1,4 +1,5 @@
--- The faults of a run that its lives' records tell, and those that no record tells.
+-- The faults of a run that its lives' records tell, those that no record tells, and their order.
+use Rattle.std.specs.Prelude.{ℕ, Option, Some, None, nat_le, if◌then◌else◌}
 use Rattle.thread_records.specs.declared.journal.closing.LifeFault.{LifeFault}
 use Rattle.thread_records.specs.declared.journal.closing.LifeFault.TheVariants as lives
 use Rattle.thread_roles.specs.declared.fault.RunFault.{RunFault}
@@ -16,3 +17,16 @@ IsRefusal RingLost = ⊥
 IsRefusal ThreadLost = Unit {0}
 IsRefusal BookLost = ⊥
 IsRefusal Memory = Unit {0}
+
+-- the order in which faults are reported
+abbrev pub rank_of : RunFault → ℕ
+rank_of Memory = 0
+rank_of ThreadLost = 1
+rank_of Foreign = 2
+rank_of RingLost = 3
+rank_of BookLost = 4
+
+-- the one of two that is told
+abbrev pub first_fault : Option RunFault → RunFault → RunFault
+first_fault None b = b
+first_fault (Some a) b = if nat_le (rank_of a) (rank_of b) then a else b

@@ -1,6 +1,6 @@
 //! Why a run has no record.
-ghost use Rattle.std.specs.Prelude.{◌≡◌};
-ghost use Rattle.thread_roles.specs.Faults.{run_fault};
+ghost use Rattle.std.specs.Prelude.{◌≡◌, IfSome};
+ghost use Rattle.thread_roles.specs.Faults.{IsRefusal, first_fault, rank_of, run_fault};
 
 use std::alloc::AllocError;
 use thiserror::Error;
@@ -48,5 +48,29 @@ pub fn fault_of(fault: LifeFault) -> RunFault
         LifeFault::Foreign => RunFault::Foreign,
         LifeFault::RingLost => RunFault::RingLost,
         LifeFault::Memory => RunFault::Memory,
+    }
+}
+
+// The place of a fault in the order in which faults are reported.
+fn rank(fault: RunFault) -> u8
+    ensures { result ≡ rank_of fault }
+{
+    match fault {
+        RunFault::Memory => 0,
+        RunFault::ThreadLost => 1,
+        RunFault::Foreign => 2,
+        RunFault::RingLost => 3,
+        RunFault::BookLost => 4,
+    }
+}
+
+/// The fault of two that is reported.
+pub fn first_of(fault: Option<RunFault>, other: RunFault) -> RunFault
+    ensures first { result ≡ first_fault fault other }
+    ensures refusal { IfSome fault (λ f. IsRefusal f) → IsRefusal other → IsRefusal result }
+{
+    match fault {
+        Some(fault) if rank(fault) <= rank(other) => fault,
+        _ => other,
     }
 }

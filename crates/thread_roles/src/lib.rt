@@ -18,7 +18,7 @@ mod working;
 
 pub use assignment::Assignment;
 pub use driving::{drive, stops_at};
-pub use fault::{RunFault, fault_of};
+pub use fault::{RunFault, fault_of, first_of};
 pub use gate::{Gate, OpenGate};
 pub use live::{Current, Stage, empty_stage, show};
 pub use mux::gather;
@@ -27,4 +27,4 @@ pub use post::{Desk, Post};
 pub use promise::{CountsOwn, WorkerRun};
 pub use ring::{Inputs, Message, Output, PacedInputs, Serving};
 pub use tally::{Part, ThreadShares};
-pub use working::{Outfit, work};
+pub use working::{Outfit, idle_run, work};

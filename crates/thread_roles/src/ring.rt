@@ -1,6 +1,7 @@
 //! What goes through the rings, and waiting at them.
-ghost use Rattle.std.specs.Prelude.{◌≡◌, ◌++◌, ◌∷◌, [], map};
+ghost use Rattle.std.specs.Prelude.{◌≡◌, ◌++◌, ◌∷◌, [], IsFalse, MatchBool};
 ghost use Rattle.rtrb.specs.Ring.{sent};
+ghost use Rattle.thread_roles.specs.Pushed.{sent_into, free_in, with_item};
 
 use cluster_node::Item;
 use rtrb::{Producer, PushError};
@@ -110,11 +111,37 @@ pub fn push_waiting<T, R: Wait>(rt: &R, ring: &mut Producer<T>, item: T)
     unreachable!()
 }
 
+// Offers a message to a worker's ring. The answer is whether the ring is there and took it.
+fn push_at_once(ring: &mut Option<Producer<Message>>, message: Message) -> bool
+    ensures sent { MatchBool result
+        (sent_into ring.new ≡ with_item message (sent_into ring.old))
+        (sent_into ring.new ≡ sent_into ring.old) }
+    ensures full { IsFalse result → free_in ring.new ≡ 0 }
+{
+    match ring {
+        Some(ring) => match ring.push(message) {
+            Ok(()) => true,
+            Err(_) => false,
+        },
+        None => false,
+    }
+}
+
+// Pushes a message into a worker's ring once that has room, if the ring is there.
+fn push_in_time<R: Wait>(rt: &R, ring: &mut Option<Producer<Message>>, message: Message)
+    ensures { sent_into ring.new ≡ with_item message (sent_into ring.old) }
+{
+    match ring {
+        Some(ring) => push_waiting(rt, ring, message),
+        None => (),
+    }
+}
+
 /// The driver's ends of the workers' rings.
 #[derive(Drop)]
 pub struct Inputs {
-    /// One for each worker.
-    pub rings: Vec<Producer<Message>>,
+    /// At each worker's number its ring, if it has one.
+    pub rings: Vec<Option<Producer<Message>>>,
 }
 
 impl fmt::Debug for Inputs {
@@ -125,40 +152,38 @@ impl fmt::Debug for Inputs {
 
 impl Rings for Inputs {
     ghost use Rattle.std.specs.Prelude.{◌≡◌, false, map, slice_index, IsFalse, MatchBool};
-    ghost use Rattle.rtrb.specs.Ring.{sent, known_free};
-    ghost use Rattle.thread_roles.specs.Pushed.{put_in};
+    ghost use Rattle.thread_roles.specs.Pushed.{put_in, sent_into, free_in};
     ghost use Rattle.thread_roles.specs.declared.ring.Message.TheVariants.{Serve};
 
     ghost paced = { false };
 
     fn offer(&mut self, worker: u16, item: Item) -> bool
         ensures sent { MatchBool result
-            (map (λ r. sent r) self.new.rings.items ≡ put_in (map (λ r. sent r) self.old.rings.items) worker (Serve item))
-            (map (λ r. sent r) self.new.rings.items ≡ map (λ r. sent r) self.old.rings.items) }
-        ensures full { IsFalse result → slice_index (map (λ r. known_free r) self.new.rings.items) worker ≡ 0 }
+            (map (λ r. sent_into r) self.new.rings.items ≡ put_in (map (λ r. sent_into r) self.old.rings.items) worker (Serve item))
+            (map (λ r. sent_into r) self.new.rings.items ≡ map (λ r. sent_into r) self.old.rings.items) }
+        ensures full { IsFalse result → slice_index (map (λ r. free_in r) self.new.rings.items) worker ≡ 0 }
     {
         let at = worker as usize;
         if at >= self.rings.len() {
             return false;
         }
         let one = &mut self.rings[at];
-        match one.push(Message::Serve(item)) {
-            Ok(()) => true,
-            Err(_) => false,
-        }
+        push_at_once(one, Message::Serve(item))
     }
 }
 
 impl Inputs {
+    ghost use Rattle.std.specs.Prelude.{◌≡◌, map};
+    ghost use Rattle.thread_roles.specs.Pushed.{sent_into, with_item};
     ghost use Rattle.thread_roles.specs.declared.ring.Message.TheVariants.{Close};
 
-    /// Puts a closing mark into each ring.
+    /// Puts a closing mark into each ring that is there.
     pub fn close<R: Wait>(&mut self, rt: &R)
-        ensures { map (λ r. sent r) self.new.rings.items ≡ map (λ ms. ms ++ Close ∷ []) (map (λ r. sent r) self.old.rings.items) }
+        ensures { map (λ r. sent_into r) self.new.rings.items ≡ map (λ ms. with_item Close ms) (map (λ r. sent_into r) self.old.rings.items) }
     {
         for at in 0..self.rings.len() {
             let one = &mut self.rings[at];
-            push_waiting(rt, one, Message::Close);
+            push_in_time(rt, one, Message::Close);
         }
     }
 }
@@ -184,14 +209,14 @@ impl<R: Wait> fmt::Debug for PacedInputs<'_, R> {
 
 impl<R: Wait> Rings for PacedInputs<'_, R> {
     ghost use Rattle.std.specs.Prelude.{◌≡◌, true, map};
-    ghost use Rattle.rtrb.specs.Ring.{sent};
-    ghost use Rattle.thread_roles.specs.Pushed.{put_in};
+    ghost use Rattle.thread_roles.specs.Pushed.{put_in, sent_into};
     ghost use Rattle.thread_roles.specs.declared.ring.Message.TheVariants.{Serve};
 
     ghost paced = { true };
 
     fn offer(&mut self, worker: u16, item: Item) -> bool
-        ensures sent { map (λ r. sent r) self.new.inputs.now.rings.items ≡ put_in (map (λ r. sent r) self.old.inputs.now.rings.items) worker (Serve item) }
+        ensures sent { map (λ r. sent_into r) self.new.inputs.now.rings.items
+            ≡ put_in (map (λ r. sent_into r) self.old.inputs.now.rings.items) worker (Serve item) }
         ensures taken { result ≡ true }
     {
         let at = worker as usize;
@@ -199,7 +224,7 @@ impl<R: Wait> Rings for PacedInputs<'_, R> {
             return true;
         }
         let one = &mut self.inputs.rings[at];
-        push_waiting(self.rt, one, Message::Serve(item));
+        push_in_time(self.rt, one, Message::Serve(item));
         true
     }
 }

@@ -84,6 +84,20 @@ fn send_on<R: Wait>(rt: &R, out: &mut Producer<Output>, worker: u16, nth: u64, s
     }
 }
 
+/// The run of a worker that has handled and counted nothing. Each worker begins with it, and one on which no packet can be placed ends
+/// with it.
+pub fn idle_run<S: Scheme, H: FlowHash, T: ConnTable, G, B: Names>(
+    alloc: Global,
+    plan: NodePlan<'_, S, H, G, B>,
+    part: Part<B>,
+) -> Result<WorkerRun<S, T, B>, AllocError>
+    ensures { IfOk result (λ w. IsWork w.record w.tally.lost w.tally.shares) }
+{
+    let record = WorkerRecord::make(alloc, plan.assignment.setup)?;
+    let tally = ThreadShares::of_part(part);
+    Ok(WorkerRun { record, tally })
+}
+
 // Serves one packet between the calls of the gate, sends it on, and counts it. Nothing is counted where memory was refused.
 fn serve_gated<S: Scheme, H: FlowHash, T: ConnTable, G: Gate, B: Names, R: Wait>(
     rt: &R,
@@ -114,21 +128,6 @@ fn serve_gated<S: Scheme, H: FlowHash, T: ConnTable, G: Gate, B: Names, R: Wait>
     }
 }
 
-// A worker that has handled and counted nothing.
-fn begin<S: Scheme, H: FlowHash, T: ConnTable, G, B: Names>(
-    alloc: Global,
-    plan: NodePlan<'_, S, H, G, B>,
-    part: Part<B>,
-) -> Result<WorkerRun<S, T, B>, AllocError>
-    ensures { IfOk result (λ w. IsWork w.record w.tally.lost w.tally.shares) }
-{
-    let record = WorkerRecord::make(alloc, plan.assignment.setup)?;
-    Ok(WorkerRun {
-        record,
-        tally: ThreadShares::of_part(part),
-    })
-}
-
 // The next packet. None where the life ends: with the closing mark, or since the workers were told to halt. That is asked
 // before each turn at the ring.
 fn next<S: Scheme, R: Wait>(rt: &R, ends: &mut Ends<'_, S>) -> Option<Item> {
@@ -156,7 +155,7 @@ fn serve_all<S: Scheme, H: FlowHash, T: ConnTable, G: Gate, B: Names, R: Wait>(
 ) -> Result<WorkerRun<S, T, B>, RunFault>
     ensures { MatchResult result (λ w. IsWork w.record w.tally.lost w.tally.shares) (λ fault. IsRefusal fault) }
 {
-    let mut run: WorkerRun<S, T, B> = begin(alloc, plan, part)?;
+    let mut run: WorkerRun<S, T, B> = idle_run(alloc, plan, part)?;
     let mut nth = 0u64;
     for _ in rt.forever() {
         let Some(item) = next(rt, ends) else {

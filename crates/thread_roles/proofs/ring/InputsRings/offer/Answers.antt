@@ -1,14 +1,12 @@
 use Rattle.std.proofs.Common.{rules}
-use Rattle.rtrb.specs.Ring.{sent, known_free}
+use Rattle.std.specs.Prelude.{None}
+use Rattle.thread_roles.specs.Pushed.{sent_into, free_in, with_item}
 use Rattle.thread_roles.specs.declared.ring.Message.TheVariants.{Serve}
-use Rattle.thread_roles.proofs.Taking.{put_in_set, same_set, number_set}
+use Rattle.thread_roles.proofs.Taking.{offered_set, number_set}
 use Rattle.thread_roles.proofs.ring.InputsRings.offer.Goals as goal
 
-pub returns-in-Ok-clause-sent : goal.returns-in-Ok-clause-sent
-returns-in-Ok-clause-sent c = put_in_set (λ r. sent r) c.args.self.now.rings.items c.args.worker c.index_mut-one.result.now c.push.new.self (Serve c.args.item) (search rules) c.index_mut-one.ensures.value c.in-Ok.ensures.ok.0
+pub returns-clause-sent : goal.returns-clause-sent
+returns-clause-sent c = offered_set (λ r. sent_into r) c.args.self.now.rings.items c.args.worker c.index_mut-one.result.now c.push_at_once.new.ring None (λ ms. with_item (Serve c.args.item) ms) c.push_at_once.result (search rules) c.index_mut-one.ensures.value c.push_at_once.ensures.sent
 
-pub returns-in-Err-clause-sent : goal.returns-in-Err-clause-sent
-returns-in-Err-clause-sent c = same_set (λ r. sent r) c.args.self.now.rings.items c.args.worker c.index_mut-one.result.now c.push.new.self (search rules) c.index_mut-one.ensures.value c.in-Err.ensures.full.1
-
-pub returns-in-Err-clause-full : goal.returns-in-Err-clause-full
-returns-in-Err-clause-full c = λ _. number_set (λ r. known_free r) c.args.self.now.rings.items c.args.worker c.push.new.self (search rules) c.in-Err.ensures.full.2
+pub returns-clause-full : goal.returns-clause-full
+returns-clause-full c = λ refused. number_set (λ r. free_in r) c.args.self.now.rings.items c.args.worker c.push_at_once.new.ring (search rules) (c.push_at_once.ensures.full refused)
