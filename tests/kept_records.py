@@ -3,7 +3,7 @@
 
 The capture has 400,000 records of which the first hundred come in the first second. What a run takes of memory is held to what
 the same run by count takes, and a tenth more. The reports are worked out by hand, and by tests/model.py where a capture is
-shorter. The last line is 'N passed, N failed'.
+shorter. And of each packet that `run` takes it keeps at most 200 bytes beside the record. The last line is 'N passed, N failed'.
 """
 import sys
 
@@ -11,6 +11,8 @@ import model
 from harness import check, run_tests
 from hostile import P, head, measured, record, scenario
 
+# The most bytes that `run` keeps of a packet beside its record.
+MOST = 200
 # So many records in all, and in the first second. The next ones come half a second later, one a millisecond.
 COUNT, EARLY = 400_000, 100
 
@@ -51,6 +53,22 @@ def takes_no_more(name, kilobytes, most):
     """A run took at most a tenth more than another one."""
     print(f"{name}: {kilobytes} kB, by count {most} kB")
     check(f"{name}: memory", kilobytes <= 1.1 * most, f"{kilobytes} kB, by count {most} kB")
+
+
+def test_bytes_a_packet():
+    """What the second half of a capture adds to what `run` takes: the bytes of its records, and MOST for each."""
+    for nodes in 1, 4:
+        addresses = [f"10.9.0.{node + 1}" for node in range(nodes)]
+        text = scenario(["install * 1", "take *"], format=3, ring=65536, nodes=str(addresses))
+        took = []
+        for count in COUNT // 2, COUNT:
+            data = CAPTURE[:len(head()) + count * len(record(P))]
+            done, lines, kilobytes, _ = measured(text, data, "run --pace")
+            check(f"{count} records, {nodes} nodes", done and lines == [*report(count, count), "audit agrees"], repr(lines)[:500])
+            took.append(kilobytes)
+        kept = (took[1] - took[0]) * 1024 / (COUNT // 2) - len(record(P))
+        print(f"{nodes} nodes: {kept:.0f} bytes a packet")
+        check(f"bytes a packet, {nodes} nodes", kept <= MOST, f"{kept:.0f} bytes")
 
 
 def test_first_second():

@@ -24,6 +24,7 @@ use crate::threads::{Audited, Task, run_named};
 use cluster_node::Packet;
 use connection_starts::Ordinals;
 use connection_table::TableKey;
+use driver_commands::Orders;
 use event_trace::Tally;
 use ip_headers::Link;
 use json_lines::Form;
@@ -161,10 +162,10 @@ fn run_over<R: Threads + Wait + Sync, G: Gate + Sync>(
         key,
         scenario,
         packets: packets.as_slice(),
-        commands: orders.commands.as_slice(),
         options,
     };
-    let audited = run_named(host, alloc, &task, turns)?;
+    let Orders { commands, tally } = orders;
+    let audited = run_named(host, alloc, &task, commands, turns)?;
     let Audited { run, agrees, told } = audited;
     let Told {
         before,
@@ -174,7 +175,7 @@ fn run_over<R: Threads + Wait + Sync, G: Gate + Sync>(
     } = told;
     let totals = totals_of(&run);
     let form = options.form;
-    let tally = with_others(orders.tally, captured.others);
+    let tally = with_others(tally, captured.others);
     let report = audited_report(alloc, form, tally, &totals, captured.ending, agrees)?;
     let mut text = String::new(alloc);
     form.push_head(&mut text, "run")?;

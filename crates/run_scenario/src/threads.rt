@@ -32,14 +32,13 @@ use std::thread;
 use std::thread::Threads;
 use thread_records::{Command, LeanRecord};
 
-/// What is to be run: a scenario's cluster over packets that were read, each node by its list of commands. The tables and the
-/// books of splits and changes hash by the key.
+/// What is to be run: a scenario's cluster over packets that were read. The tables and the books of splits and changes hash by
+/// the key.
 #[derive(Clone, Copy)]
 pub(crate) struct Task<'a> {
     pub(crate) key: TableKey,
     pub(crate) scenario: &'a Scenario,
     pub(crate) packets: &'a [Packet],
-    pub(crate) commands: &'a [Vec<Command>],
     pub(crate) options: RunOptions,
 }
 
@@ -102,18 +101,20 @@ fn judged<R: Threads + Sync>(
     }
 }
 
-/// Runs the cluster with the scheme that the scenario names, each node by its list of commands, and replays its history. What
-/// is told beside the report is made meanwhile, of connections by the ordinals of the records, where there are any.
+/// Runs the cluster with the scheme that the scenario names, each node by its list of commands, and replays its history. The
+/// commands are given back before that. What is told beside the report is made meanwhile, of connections by the ordinals of the
+/// records, where there are any.
 pub(crate) fn run_named<R: Threads + Wait + Sync, G: Gate + Sync>(
     host: &Host<'_, R, G>,
     alloc: Global,
     task: &Task<'_>,
+    commands: Vec<Vec<Command>>,
     turns: Option<Ordinals>,
 ) -> Result<Audited, RunFailure>
-    requires nodes { length task.now.commands.now ≡ length task.now.scenario.now.nodes.items }
+    requires nodes { length commands.items ≡ length task.now.scenario.now.nodes.items }
     requires read { WereRead task.now.packets.now }
     ensures runs { IfOk result (λ a. AreRuns (rules_in task.now.scenario.now) task.now.packets.now task.now.scenario.now.ring 0
-        (map (λ c. c.items) task.now.commands.now) a.run.nodes.items) }
+        (map (λ c. c.items) commands.items) a.run.nodes.items) }
     ensures paced { task.now.options.paced ≡ true → IfOk result (λ a. NoneRefused a.run.nodes.items) }
     ensures counts { IfOk result (λ a. AreTotals a.run.stats (all_outcomes a.run.nodes.items)) }
     ensures few { IfOk result (λ a. length (all_outcomes a.run.nodes.items) < 2 ^ 63) }
@@ -141,7 +142,7 @@ pub(crate) fn run_named<R: Threads + Wait + Sync, G: Gate + Sync>(
         paced: task.options.paced,
     };
     let catalogue = &scenario.catalogue;
-    let prepared = SharedVersions::prepare(alloc, &setup, catalogue, task.commands)?;
+    let prepared = SharedVersions::prepare(alloc, &setup, catalogue, commands.as_slice())?;
     let run = run_each::<NamedScheme, AnyHash, PlaceTable, G, R>(
         host.rt,
         alloc,
@@ -149,10 +150,11 @@ pub(crate) fn run_named<R: Threads + Wait + Sync, G: Gate + Sync>(
         catalogue,
         &prepared,
         task.packets,
-        task.commands,
+        commands.as_slice(),
         rings,
         host.gate,
     )?;
+    drop(commands);
     let Some(_) = outcome_count(run.nodes.as_slice()) else {
         return Err(RunFailure::Threads(RunFault::Memory));
     };

@@ -26,20 +26,18 @@ use Rattle.run_scenario.proofs.running.run_over.Goals as goal
 
 pub run_named-requires-clause-nodes : goal.run_named-requires-clause-nodes
 run_named-requires-clause-nodes g c κs within =
-    let one : length c.as_slice-3.result.now ≡ length c.in_ok-orders.orders.commands.items = ap (λ l. length l) c.as_slice-3.ensures.value in
-    one ∙ sym (length-map c.in_ok-orders.orders.commands.items (λ l. l.items)) ∙ ap (λ l. length l) c.in_ok-orders.ensures.commands
+    sym (length-map c.in_ok-orders.orders.commands.items (λ l. l.items)) ∙ ap (λ l. length l) c.in_ok-orders.ensures.commands
     ∙ length-map (below (length c.args.scenario.now.nodes.items)) (orders_on (choice_in c.args.scenario.now) c.as_slice.result.now (steps_in c.args.scenario.now c.args.captured.now.records) (length c.args.scenario.now.nodes.items)) ∙ below_long (length c.args.scenario.now.nodes.items)
 
 pub totals_of-totals-requires-clause-settled : goal.totals_of-totals-requires-clause-settled
 totals_of-totals-requires-clause-settled g c =
     let s = c.args.scenario.now in
-    let commands : List (List Command) = map (λ l. l.items) c.as_slice-3.result.now in
+    let commands : List (List Command) = map (λ l. l.items) c.in_ok-orders.orders.commands.items in
     let nodes = c.in_ok-audited.audited.run.nodes.items in
     let runs : AreRuns (rules_in s) c.as_slice-2.result.now s.ring 0 commands nodes = c.in_ok-audited.ensures.runs in
-    let lists : length commands ≡ length c.as_slice-3.result.now = length-map c.as_slice-3.result.now (λ l. l.items) in
-    let one : length c.as_slice-3.result.now ≡ length c.in_ok-orders.orders.commands.items = ap (λ l. length l) c.as_slice-3.ensures.value in
-    let asked : length c.as_slice-3.result.now ≡ length s.nodes.items =
-    one ∙ sym (length-map c.in_ok-orders.orders.commands.items (λ l. l.items)) ∙ ap (λ l. length l) c.in_ok-orders.ensures.commands
+    let lists : length commands ≡ length c.in_ok-orders.orders.commands.items = length-map c.in_ok-orders.orders.commands.items (λ l. l.items) in
+    let asked : length c.in_ok-orders.orders.commands.items ≡ length s.nodes.items =
+    sym (length-map c.in_ok-orders.orders.commands.items (λ l. l.items)) ∙ ap (λ l. length l) c.in_ok-orders.ensures.commands
     ∙ length-map (below (length s.nodes.items)) (orders_on (choice_in s) c.as_slice.result.now (steps_in s c.args.captured.now.records) (length s.nodes.items)) ∙ below_long (length s.nodes.items) in
     let within : 0 + length commands ≤ length s.nodes.items = omega (arith, lists, asked) in
     all_settled (rules_in s) c.as_slice-2.result.now s.ring 0 commands nodes within (subst (λ (ps : List Packet). AreRead ps) (sym c.as_slice-2.ensures.value) c.in_ok-packets.ensures.read) runs
@@ -66,12 +64,12 @@ returns-clause-over g c = λ all split.
     let run = c.in_ok-audited.audited.run in
     let o = c.args.asked.options in
     let turns = c.args.asked.turns in
-    let commands = map (λ l. l.items) c.as_slice-3.result.now in
+    let commands = map (λ l. l.items) c.in_ok-orders.orders.commands.items in
     let read : c.in_ok-packets.packets.items ≡ packets_in s link kept = c.in_ok-packets.ensures.packets ∙ packets_are s c.wire_of-wire.result link c.args.captured.now.records c.wire_of-wire.ensures.link c.wire_of-wire.ensures.check in
     let first : c.as_slice.result.now ≡ packets_in s link kept = c.as_slice.ensures.value ∙ read in
     let are : c.as_slice-2.result.now ≡ packets_in s link kept = c.as_slice-2.ensures.value ∙ read in
     let told : commands ≡ commands_in s link all =
-    ap (λ l. map (λ k. k.items) l) c.as_slice-3.ensures.value ∙ c.in_ok-orders.ensures.commands ∙ ap (λ (l : List Packet). orders_of (choice_in s) l (steps_in s kept) (length s.nodes.items)) first
+    c.in_ok-orders.ensures.commands ∙ ap (λ (l : List Packet). orders_of (choice_in s) l (steps_in s kept) (length s.nodes.items)) first
     ∙ same_commands s link kept all others c.requires.few split in
     let few_runs : AreRuns (rules_in s) (packets_in s link kept) s.ring 0 (commands_in s link all) run.nodes.items =
     subst (λ (ps : List Packet). AreRuns (rules_in s) ps s.ring 0 (commands_in s link all) run.nodes.items) are
@@ -118,12 +116,12 @@ returns-clause-sends g c = λ all split.
     let link = c.args.captured.now.head.link in
     let kept = c.args.captured.now.records in
     let others = c.args.captured.now.others in
-    let commands = map (λ l. l.items) c.as_slice-3.result.now in
+    let commands = map (λ l. l.items) c.in_ok-orders.orders.commands.items in
     let read : c.in_ok-packets.packets.items ≡ packets_in s link kept = c.in_ok-packets.ensures.packets ∙ packets_are s c.wire_of-wire.result link c.args.captured.now.records c.wire_of-wire.ensures.link c.wire_of-wire.ensures.check in
     let first : c.as_slice.result.now ≡ packets_in s link kept = c.as_slice.ensures.value ∙ read in
     let are : c.as_slice-2.result.now ≡ packets_in s link kept = c.as_slice-2.ensures.value ∙ read in
     let told : commands ≡ commands_in s link all =
-    ap (λ l. map (λ k. k.items) l) c.as_slice-3.ensures.value ∙ c.in_ok-orders.ensures.commands ∙ ap (λ (l : List Packet). orders_of (choice_in s) l (steps_in s kept) (length s.nodes.items)) first
+    c.in_ok-orders.ensures.commands ∙ ap (λ (l : List Packet). orders_of (choice_in s) l (steps_in s kept) (length s.nodes.items)) first
     ∙ same_commands s link kept all others c.requires.few split in
     let few_runs : AreRuns (rules_in s) (packets_in s link kept) s.ring 0 (commands_in s link all) c.in_ok-audited.audited.run.nodes.items =
     subst (λ (ps : List Packet). AreRuns (rules_in s) ps s.ring 0 (commands_in s link all) c.in_ok-audited.audited.run.nodes.items) are
