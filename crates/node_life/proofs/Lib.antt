@@ -1,2 +1,3 @@
+pub mod Homed
 pub mod Judging
 pub mod Telling

@@ -1,2 +1,3 @@
 pub mod Judged
+pub mod PrivateHomes
 pub mod Told

@@ -1,4 +1,9 @@
 //! Which workers of a life need rings and threads.
+ghost use Rattle.std.specs.Prelude.{◌≡◌, ◌<◌, ◌∷◌, ℕ, Bool, List, true, drop, slice_get};
+ghost use Rattle.thread_records.specs.declared.command.Command.{Command};
+ghost use Rattle.steering.specs.Steering.{home_of};
+ghost use Rattle.node_life.specs.PrivateHomes.{has, HasHome, HaveHomes, Marks, ends_life};
+
 use cluster_node::Packet;
 use hash_laws::FlowHash;
 use selection::Scheme;
@@ -8,7 +13,7 @@ use thread_roles::Assignment;
 
 /// The workers on which a life may place packets: the homes of the flows that it offers. Where it offers more packets than a ring
 /// has places they are all workers, since a packet whose home is full goes to another one. A worker that is none of them gets no
-/// ring and no thread. No promise rests on them: the records are compared whatever they are.
+/// ring and no thread. No promise of a run rests on them: the records are compared whatever they are.
 #[derive(Clone, Copy, Debug, PartialEq, Eq)]
 pub(crate) struct Homes {
     marks: [bool; 16],
@@ -28,6 +33,13 @@ fn offers_many<S: Scheme, H: FlowHash>(assignment: Assignment<'_, S, H>, from: u
     false
 }
 
+// Whether a command ends the life.
+fn ends_life(command: Command) -> bool
+    ensures { result ≡ ends_life command }
+{
+    matches!(command, Command::Restart | Command::Stop)
+}
+
 impl Homes {
     // No workers.
     fn none() -> Homes {
@@ -35,12 +47,18 @@ impl Homes {
     }
 
     // All workers.
-    fn all() -> Homes {
+    fn all() -> Homes
+        ensures { (w : ℕ) → has result.marks w ≡ true }
+    {
         Homes { marks: [true; 16] }
     }
 
     // Marks the home of a packet, if it has a flow.
-    fn mark<S: Scheme, H: FlowHash>(&mut self, assignment: Assignment<'_, S, H>, packet: u32) {
+    fn mark<S: Scheme, H: FlowHash>(&mut self, assignment: Assignment<'_, S, H>, packet: u32)
+        ensures home { let a = assignment.entry in
+            HasHome (λ x. home_of (H.plain a.setup.now.hash) a.setup.now.workers x) self.new.marks (slice_get a.packets.now packet) }
+        ensures others { Marks self.old.marks self.new.marks }
+    {
         let Some(Packet::Good { flow, .. }) = assignment.packets.get(packet as usize) else {
             return;
         };
@@ -49,8 +67,23 @@ impl Homes {
         self.marks[at] = true;
     }
 
+    // Marks the home of the packet that a command offers, if it does.
+    fn note<S: Scheme, H: FlowHash>(&mut self, assignment: Assignment<'_, S, H>, command: Command)
+        ensures step { let a = assignment.entry in (marks : List Bool) (cs : List Command) → Marks self.new.marks marks →
+            HaveHomes (λ x. home_of (H.plain a.setup.now.hash) a.setup.now.workers x) a.packets.now marks cs →
+            HaveHomes (λ x. home_of (H.plain a.setup.now.hash) a.setup.now.workers x) a.packets.now marks (command ∷ cs) }
+        ensures others { Marks self.old.marks self.new.marks }
+    {
+        let Command::Offer(packet) = command else {
+            return;
+        };
+        self.mark(assignment, packet);
+    }
+
     // Whether each of so many workers is one of them.
-    fn have_all(&self, workers: u16) -> bool {
+    fn have_all(&self, workers: u16) -> bool
+        ensures { result ≡ true → (w : ℕ) → w < workers → has self.now.marks w ≡ true }
+    {
         for worker in 0..workers {
             if !self.have(worker) {
                 return false;
@@ -63,17 +96,20 @@ impl Homes {
     pub(crate) fn of_life<S: Scheme, H: FlowHash>(
         assignment: Assignment<'_, S, H>,
         from: usize,
-    ) -> Homes {
+    ) -> Homes
+        ensures { let a = assignment.entry in
+            HaveHomes (λ x. home_of (H.plain a.setup.now.hash) a.setup.now.workers x) a.packets.now result.marks (drop from a.commands.now) }
+    {
         if offers_many(assignment, from) {
             return Homes::all();
         }
         let mut homes = Homes::none();
         for at in from..assignment.commands.len() {
-            match assignment.commands[at] {
-                Command::Offer(packet) => homes.mark(assignment, packet),
-                Command::Publish(_) => (),
-                Command::Restart | Command::Stop => return homes,
+            let command = assignment.commands[at];
+            if ends_life(command) {
+                return homes;
             }
+            homes.note(assignment, command);
             if homes.have_all(assignment.setup.workers()) {
                 return homes;
             }
@@ -82,7 +118,9 @@ impl Homes {
     }
 
     /// Whether a worker is one of them.
-    pub(crate) fn have(&self, worker: u16) -> bool {
+    pub(crate) fn have(&self, worker: u16) -> bool
+        ensures { result ≡ has self.now.marks worker }
+    {
         match self.marks.get(worker as usize) {
             Some(mark) => *mark,
             None => true,

@@ -9,7 +9,7 @@ ghost use Rattle.node_life.specs.Told.{LifeTells};
 
 use crate::begun::Begun;
 use crate::ends::{end_driven, numbered};
-use crate::rings::{Kit, Laid};
+use crate::rings::{Kit, Laid, roomy};
 use connection_table::ConnTable;
 use hash_laws::FlowHash;
 use rtrb::Consumer;
@@ -113,7 +113,7 @@ where
     ensures all { result.fault ≡ None → length result.hands.items ≡ length kits.entry.items }
     ensures fault { IfSome result.fault (λ fault. IsRefusal fault) }
 {
-    let mut hands = Vec::new(alloc);
+    let mut hands = roomy(alloc, kits.len());
     for kit in kits {
         if hands.reserve(1).is_err() {
             let fault = Some(RunFault::Memory);
@@ -193,7 +193,7 @@ fn join_all<S: Scheme, H: FlowHash, T: ConnTable, G: Gate, B: Names, R: Threads 
     ensures fault { IfErr result (λ fault. IsRefusal fault) }
 {
     let mut joined = Joined {
-        runs: Vec::new(alloc),
+        runs: roomy(alloc, hands.len()),
         fault: None,
     };
     for hand in hands {
@@ -309,6 +309,7 @@ fn drive_crew<
     end_feed(rt, plan, &driven, &mut desk, &mut inputs);
     let runs = join_all(rt, alloc, plan, hands);
     let sent = end_mux(rt, alloc, mux);
+    drop(inputs);
     let sent = sent?;
     match runs {
         Err(fault) => Err(told_first(driven, fault)),

@@ -1,6 +1,6 @@
 //! What a life of a node is laid out with, before its threads start: for each worker a part of the counts, and for one on which
 //! packets may be placed a ring from the driver, a ring to the mux, and a place to read versions.
-ghost use Rattle.std.specs.Prelude.{◌≡◌, ◌<◌, ◌+◌, length, IfOk, IfErr, OnOk, All};
+ghost use Rattle.std.specs.Prelude.{◌≡◌, [], ◌<◌, ◌+◌, length, IfOk, IfErr, OnOk, All};
 ghost use Rattle.thread_roles.specs.Faults.{IsRefusal};
 ghost use Rattle.thread_roles.specs.declared.fault.RunFault.TheVariants.{ThreadLost};
 ghost use Rattle.version_board.specs.Seats.{IsWatcherOf};
@@ -14,6 +14,16 @@ use std::fmt;
 use std::sync::Wait;
 use thread_roles::{Inputs, Outfit, Output, Part, Post, RunFault, Stage, ThreadShares};
 use version_board::{Watcher, WordBoard};
+
+/// A list with room for so many, or with none where memory for it is refused: then it grows as they come.
+pub(crate) fn roomy<T>(alloc: Global, count: usize) -> Vec<T>
+    ensures { result.items ≡ [] }
+{
+    match Vec::with_capacity(alloc, count) {
+        Ok(list) => list,
+        Err(_) => Vec::new(alloc),
+    }
+}
 
 /// What a life has for a worker.
 #[derive(Drop)]
@@ -76,7 +86,7 @@ pub(crate) fn post_all<'a, S: Scheme, R: Wait + Drop>(
     ensures posts { IfOk result (λ v. length v.items ≡ length seats.items) }
     ensures fault { IfErr result (λ fault. IsRefusal fault) }
 {
-    let mut posts = Vec::new(alloc);
+    let mut posts = roomy(alloc, seats.len());
     let mut number = 0u16;
     for seat in seats {
         let post = post_of(board, stage, seat, homes.have(number))?;
@@ -89,14 +99,14 @@ pub(crate) fn post_all<'a, S: Scheme, R: Wait + Drop>(
 }
 
 impl<'a, S: Scheme, B: Names> Laid<'a, S, B> {
-    // Nothing for no worker.
-    fn empty(alloc: Global) -> Laid<'a, S, B>
+    // Nothing yet for any of so many workers.
+    fn empty(alloc: Global, workers: usize) -> Laid<'a, S, B>
         ensures { length result.kits.items ≡ 0 }
     {
         Laid {
-            kits: Vec::new(alloc),
+            kits: roomy(alloc, workers),
             inputs: Inputs {
-                rings: Vec::new(alloc),
+                rings: roomy(alloc, workers),
             },
             outputs: Vec::new(alloc),
         }
@@ -149,7 +159,7 @@ pub(crate) fn lay<'a, S: Scheme, B: Names>(
     ensures parts { OnOk result (tally.new.shares.parts + length posts.entry.items ≡ tally.old.shares.parts) }
     ensures same { OnOk result ((tally.new.shares ≡ record tally.old.shares { parts = tally.new.shares.parts }) × (tally.new.lost ≡ tally.old.lost)) }
 {
-    let mut laid = Laid::empty(alloc);
+    let mut laid = Laid::empty(alloc, posts.len());
     let mut number = 0u16;
     for post in posts {
         let part = tally.part();

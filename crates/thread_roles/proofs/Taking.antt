@@ -86,3 +86,7 @@ number_set number vs w new h none =
     ap (λ (l : List ℕ). get_or l w 0) (map-set number vs w new)
     ∙ get_or-set_same (map number vs) w (number new) 0 (omega (arith, length-map vs number, h))
     ∙ none
+
+-- what holds of an element as it is seen holds at its place
+pub holds_at : {V Y : Type 0} (view : V → Y) (vs : List V) (w : ℕ) (old : V) (d : Y) (is : Y → Bool) → w < length vs → old ≡ get_or vs w old → is (view old) ≡ true → is (get_or (map view vs) w d) ≡ true
+holds_at view vs w old d is h at holds = ap is (get_or-map view vs w old d h ∙ ap view (sym at)) ∙ holds

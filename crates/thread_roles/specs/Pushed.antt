@@ -1,5 +1,5 @@
 -- What was pushed into rings, of which some may not be there.
-use Rattle.std.specs.Prelude.{ℕ, List, [], ◌∷◌, ◌++◌, Option, Some, None, slice_index_or, slice_set}
+use Rattle.std.specs.Prelude.{ℕ, Bool, List, [], ◌∷◌, ◌++◌, Option, Some, None, is_some, slice_index_or, slice_set}
 use Rattle.rtrb.specs.declared.producer.Producer.{Producer}
 use Rattle.rtrb.specs.Ring.{sent, known_free}
 
@@ -21,3 +21,7 @@ with_item x (Some xs) = Some (xs ++ x ∷ [])
 -- one more item in one of them
 abbrev pub put_in : {X : Type 0} → List (Option (List X)) → ℕ → X → List (Option (List X))
 put_in rings at x = slice_set rings at (with_item x (slice_index_or rings at None))
+
+-- the ring of this number is there
+abbrev pub is_there : {X : Type 0} → List (Option (List X)) → ℕ → Bool
+is_there rings at = is_some (slice_index_or rings at None)

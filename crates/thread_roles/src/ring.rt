@@ -1,5 +1,5 @@
 //! What goes through the rings, and waiting at them.
-ghost use Rattle.std.specs.Prelude.{◌≡◌, ◌++◌, ◌∷◌, [], IsFalse, MatchBool};
+ghost use Rattle.std.specs.Prelude.{◌≡◌, ◌++◌, ◌∷◌, [], true, is_some, IsFalse, MatchBool};
 ghost use Rattle.rtrb.specs.Ring.{sent};
 ghost use Rattle.thread_roles.specs.Pushed.{sent_into, free_in, with_item};
 
@@ -116,6 +116,7 @@ fn push_at_once(ring: &mut Option<Producer<Message>>, message: Message) -> bool
     ensures sent { MatchBool result
         (sent_into ring.new ≡ with_item message (sent_into ring.old))
         (sent_into ring.new ≡ sent_into ring.old) }
+    ensures there { result ≡ true → is_some (sent_into ring.old) ≡ true }
     ensures full { IsFalse result → free_in ring.new ≡ 0 }
 {
     match ring {
@@ -151,8 +152,8 @@ impl fmt::Debug for Inputs {
 }
 
 impl Rings for Inputs {
-    ghost use Rattle.std.specs.Prelude.{◌≡◌, false, map, slice_index, IsFalse, MatchBool};
-    ghost use Rattle.thread_roles.specs.Pushed.{put_in, sent_into, free_in};
+    ghost use Rattle.std.specs.Prelude.{◌≡◌, true, false, map, slice_index, IsFalse, MatchBool};
+    ghost use Rattle.thread_roles.specs.Pushed.{put_in, sent_into, free_in, is_there};
     ghost use Rattle.thread_roles.specs.declared.ring.Message.TheVariants.{Serve};
 
     ghost paced = { false };
@@ -161,6 +162,7 @@ impl Rings for Inputs {
         ensures sent { MatchBool result
             (map (λ r. sent_into r) self.new.rings.items ≡ put_in (map (λ r. sent_into r) self.old.rings.items) worker (Serve item))
             (map (λ r. sent_into r) self.new.rings.items ≡ map (λ r. sent_into r) self.old.rings.items) }
+        ensures there { result ≡ true → is_there (map (λ r. sent_into r) self.old.rings.items) worker ≡ true }
         ensures full { IsFalse result → slice_index (map (λ r. free_in r) self.new.rings.items) worker ≡ 0 }
     {
         let at = worker as usize;
@@ -192,7 +194,7 @@ impl Inputs {
 ///
 /// A worker takes from its ring until its driver ends the life, also one that was refused memory or can't read a version.
 /// So a driver that waits at a full ring goes on, unless the worker's gate doesn't return. A ring that isn't there takes
-/// nothing, and that is found when the life ends.
+/// nothing. That is found when the life ends, or counted as lost where it ends with a stop.
 #[derive(Drop)]
 pub struct PacedInputs<'a, R: Wait> {
     /// By what it waits.

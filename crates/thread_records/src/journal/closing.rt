@@ -48,7 +48,7 @@ impl From<AllocError> for LifeFault {
 }
 
 // How many servings are written before their memory is given back.
-const GIVEN_BACK: usize = 65_536;
+const GIVEN_BACK: usize = 16_384;
 
 fn has(versions: &[u32], version: u32) -> bool
     ensures { result ≡ list_any (λ u. u == version) versions.now }
