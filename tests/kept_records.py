@@ -3,7 +3,7 @@
 
 The capture has 400,000 records of which the first hundred come in the first second. What a run takes of memory is held to what
 the same run by count takes, and a tenth more. The reports are worked out by hand, and by tests/model.py where a capture is
-shorter. And of each packet that `run` takes it keeps at most 200 bytes beside the record. The last line is 'N passed, N failed'.
+shorter. And of packets that are all sent, by a paced run, it keeps at most 200 bytes beside each record. The last line is 'N passed, N failed'.
 """
 import sys
 

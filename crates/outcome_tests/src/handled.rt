@@ -1,4 +1,4 @@
-//! A list of what was handled gives what was put there, also where a backend gets no place.
+//! A list of what was handled gives what was put there.
 use crate::places::backend;
 use cluster_node::Item;
 use five_tuple::Flow;
@@ -57,7 +57,8 @@ fn put(rt: &impl Abort, list: &mut HandledList, number: u32) -> Result<(), Alloc
     Ok(())
 }
 
-// Whichever allocation is refused, the list has all of them: also where a backend then gets no place.
+// The list has all that was put there, also turned round. With one allocation refused, as by `rt try --test --fail-alloc 3`, a
+// backend gets no place, and the list has all of it too. In the gate tests/refused_growths.py refuses those of a run.
 #[test]
 fn a_list_gives_what_was_handled(rt: HostRuntime) -> Result<(), Fail> {
     let mut list = HandledList::new(rt.alloc());

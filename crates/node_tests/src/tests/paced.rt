@@ -74,21 +74,39 @@ static LIVES: [Command; 19] = [
     Command::Offer(2),
 ];
 
-fn lives(rt: &impl Abort, alloc: Global) -> Vec<Command> {
-    Vec::from_slice(alloc, &LIVES).expect(rt, "memory")
+// Four lives with rings of more places: in the first, the second and the last only one worker can get a packet, in the third none.
+static LONE: [Command; 8] = [
+    Command::Publish(1),
+    Command::Offer(1),
+    Command::Restart,
+    Command::Offer(0),
+    Command::Stop,
+    Command::Restart,
+    Command::Offer(1),
+    Command::Offer(1),
+];
+
+fn list(rt: &impl Abort, alloc: Global, commands: &[Command]) -> Vec<Command> {
+    Vec::from_slice(alloc, commands).expect(rt, "memory")
 }
 
-// A run of three nodes with rings of one place.
+// A run of three nodes by these commands, with rings of so many places.
 fn paced<T: ConnTable + Send, R: Abort + Threads + Wait + Sync>(
     rt: &R,
     alloc: Global,
+    commands: &[Command],
+    places: u32,
 ) -> Result<NodesRun, RunFault> {
     let setup = cluster(rt, alloc);
     let catalogue = catalogue(rt, alloc);
     let packets = packets();
-    let lists = [lives(rt, alloc), lives(rt, alloc), lives(rt, alloc)];
+    let lists = [
+        list(rt, alloc, commands),
+        list(rt, alloc, commands),
+        list(rt, alloc, commands),
+    ];
     let rings = RingRules {
-        places: 1,
+        places,
         paced: true,
     };
     let prepared = SharedVersions::none(alloc);
@@ -125,7 +143,7 @@ fn all_at_home(node: &LeanRecord) -> bool {
 // none was dropped but for those that a stop left.
 #[test]
 fn paced_drivers_wait_at_full_rings(rt: HostRuntime) {
-    let run = match paced::<PlaceTable, _>(&rt, rt.alloc()) {
+    let run = match paced::<PlaceTable, _>(&rt, rt.alloc(), &LIVES, 1) {
         Ok(run) => run,
         Err(fault) => panic!(&rt; "{fault:?}"),
     };
@@ -140,6 +158,37 @@ fn paced_drivers_wait_at_full_rings(rt: HostRuntime) {
     holds(&rt, stats.dropped == dropped, "drops");
     assert_eq!(rt; (stats.received, stats.waiting), (42, 0));
     assert_eq!(rt; stats.forwarded.checked_add(lost), Some(42));
+}
+
+// How many packets a life sent.
+fn sent_in(node: &LeanRecord, life: usize) -> usize {
+    match node.sent().get(life) {
+        Some(sent) => sent.len(),
+        None => 0,
+    }
+}
+
+// Lives in which one worker alone can get a packet, or none can. That one gets all of them, though the other has no ring, and only
+// a stop loses one.
+#[test]
+fn paced_drivers_reach_a_lone_worker(rt: HostRuntime) {
+    let run = match paced::<PlaceTable, _>(&rt, rt.alloc(), &LONE, 8) {
+        Ok(run) => run,
+        Err(fault) => panic!(&rt; "{fault:?}"),
+    };
+    for node in run.nodes.iter() {
+        holds(&rt, all_at_home(node), "at home");
+        holds(&rt, node.sent().len() == 4, "lives");
+        assert_eq!(rt;
+            (sent_in(node, 0), sent_in(node, 2), sent_in(node, 3)),
+            (1, 0, 2)
+        );
+    }
+    let stats = run.stats;
+    let lost = stats.dropped[12];
+    holds(&rt, lost <= 3, "lost at the stops");
+    assert_eq!(rt; stats.received, 12);
+    assert_eq!(rt; stats.forwarded.checked_add(lost), Some(12));
 }
 
 /// A table that no worker gets, since memory for it is refused.
@@ -179,6 +228,6 @@ impl ConnTable for RefusedTable {
 // Workers that are refused memory at once go on taking, so no driver waits for ever at their rings.
 #[test]
 fn no_driver_waits_for_a_worker_that_failed(rt: HostRuntime) {
-    let fault = paced::<RefusedTable, _>(&rt, rt.alloc()).err();
+    let fault = paced::<RefusedTable, _>(&rt, rt.alloc(), &LIVES, 1).err();
     holds(&rt, fault == Some(RunFault::Memory), "memory");
 }
