@@ -1,5 +1,5 @@
 //! Drivers that wait at full rings: nothing is refused, and the run ends.
-ghost use Rattle.std.specs.Prelude.{◌≡◌, None, length};
+ghost use Rattle.std.specs.Prelude.{◌≡◌, ◌<◌, ◌≤◌, None, length};
 
 use super::{Sums, catalogue, holds, packets, seven};
 use cluster_core::Setup;
@@ -96,7 +96,10 @@ fn paced<T: ConnTable + Send, R: Abort + Threads + Wait + Sync>(
     alloc: Global,
     commands: &[Command],
     places: u32,
-) -> Result<NodesRun, RunFault> {
+) -> Result<NodesRun, RunFault>
+    requires some { 0 < places }
+    requires limit { places ≤ 65536 }
+{
     let setup = cluster(rt, alloc);
     let catalogue = catalogue(rt, alloc);
     let packets = packets();
