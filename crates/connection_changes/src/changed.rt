@@ -11,16 +11,25 @@ use five_tuple::Flow;
 use run_report::Split;
 use std::alloc::{AllocError, Global};
 use std::collections::HashSet;
+use std::fmt;
 
 /// The flows that changed their server, each once.
 #[derive(Drop)]
-pub(crate) struct ChangedFlows {
+pub struct ChangedFlows {
     flows: HashSet<Flow, TableKey>,
+}
+
+impl fmt::Debug for ChangedFlows {
+    fn fmt<W: fmt::Write>(&self, f: &mut fmt::Formatter<W>) -> fmt::Result {
+        f.debug_struct("ChangedFlows")
+            .field("len", &self.flows.len())
+            .finish_non_exhaustive()
+    }
 }
 
 impl ChangedFlows {
     /// None. Flows are hashed by the key.
-    pub(crate) fn new(alloc: Global, key: TableKey) -> ChangedFlows
+    pub fn new(alloc: Global, key: TableKey) -> ChangedFlows
         ensures { AreChanged [] result }
     {
         ChangedFlows {
@@ -29,7 +38,7 @@ impl ChangedFlows {
     }
 
     /// Those of these splits.
-    pub(crate) fn of_splits(
+    pub fn of_splits(
         alloc: Global,
         key: TableKey,
         splits: &[Split],
@@ -44,7 +53,7 @@ impl ChangedFlows {
     }
 
     /// How many there are.
-    pub(crate) fn len(&self) -> usize
+    pub fn len(&self) -> usize
         ensures { (xs : List Flow) → AreChanged xs self.now → result ≡ length xs }
     {
         self.flows.len()

@@ -89,7 +89,7 @@ pub(crate) fn arrived_by(event: &Event, packet: Option<&Packet>) -> Option<Arriv
 }
 
 /// The node whose life an event begins.
-pub(crate) fn begun_by(event: &Event, outcome: &Outcome) -> Option<u16>
+pub fn begun_by(event: &Event, outcome: &Outcome) -> Option<u16>
     ensures { result ≡ begun_by event.now outcome.now }
 {
     match (event, outcome) {

@@ -21,7 +21,7 @@ module _ {V : Type 0} where
   pub stands : (x : Flow) (ps : List (Flow × V)) (p : ℕ) (v : V) → EachOnce ps → 0 < p → slice_get ps (p - 1) ≡ Some (x, v) → StandsWith x ps p v
   stands x ps p v once some there = record { some = some; there = there; known = value_there x v ps (p - 1) once there }
 
-  found_place : (key : TableKey) (hashes : List ℕ) (ps : List (Flow × V)) (x : Flow) (p : ℕ) → AreTied key hashes ps → 0 < p → true ≡ is_of x (slice_get ps (p - 1)) → StandsAt x ps p
+  pub found_place : (key : TableKey) (hashes : List ℕ) (ps : List (Flow × V)) (x : Flow) (p : ℕ) → AreTied key hashes ps → 0 < p → true ≡ is_of x (slice_get ps (p - 1)) → StandsAt x ps p
   found_place key hashes ps x p tied some hit =
       let own = its_pair x (slice_get ps (p - 1)) (sym hit) in
       (own.0, stands x ps p own.0 tied.once some own.1)

@@ -1,5 +1,5 @@
 //! A map of flows whose pairs stand at places.
-ghost use Rattle.std.specs.Prelude.{◌≡◌, ◌<◌, ◌-◌, [], length, slice_get, MatchOption, OnOk, OnErr, None};
+ghost use Rattle.std.specs.Prelude.{◌≡◌, ◌<◌, ◌≤◌, ◌-◌, [], true, false, length, slice_get, MatchOption, OnOk, OnErr, None};
 ghost use Rattle.flow_map.specs.Maps.{value_of, valued, StandsAt, StandsWith};
 ghost use Rattle.flow_map.specs.PrivateMaps.{is_of};
 
@@ -88,6 +88,41 @@ impl<V> FlowMap<V> {
             ensures { result ≡ is_of flow.entry.now (slice_get pairs.entry.now.items (place - 1)) }
         { is_at(pairs, place, flow) };
         self.buckets.find(self.key.hash_of(flow), is_its)
+    }
+
+    /// A place where a flow of this hash may stand, told by its bucket alone: no flow is read. It is 0 where there is none. Flows
+    /// are hashed by the map's key.
+    #[inline(always)]
+    pub fn guess(&self, hash: u32) -> u32
+        ensures { result ≤ length self.now }
+    {
+        let is_any = |place: u32|
+            ensures { result ≡ true }
+        {
+            let _ = place;
+            true
+        };
+        self.buckets.find(hash, is_any).unwrap_or(0)
+    }
+
+    /// Whether a flow stands at a place, which may be any number.
+    #[inline(always)]
+    pub fn is_at(&self, place: u32, flow: &Flow) -> bool
+        ensures there { result ≡ true → StandsAt flow.now self.now place }
+        ensures elsewhere { result ≡ false → StandsAt flow.now self.now place → ⊥ }
+    {
+        place != 0 && is_at(&self.pairs, place, flow)
+    }
+
+    /// The place of a flow, where one is guessed. What is guessed decides nothing but the time that this takes.
+    #[inline(always)]
+    pub fn place_by(&self, guess: u32, flow: &Flow) -> Option<u32>
+        ensures { MatchOption result (value_of flow.now self.now ≡ None) (λ p. StandsAt flow.now self.now p) }
+    {
+        if self.is_at(guess, flow) {
+            return Some(guess);
+        }
+        self.place_of(flow)
     }
 
     /// The value of a flow that stands at this place.
