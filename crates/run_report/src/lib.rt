@@ -26,7 +26,7 @@ pub use lines::push_line;
 pub use names::{CauseText, ReasonText};
 pub use noted::{Beside, Noted};
 pub use reports::{CAUSES, report_text};
-pub use sending::{Sending, Split, sent_by};
+pub use sending::{Sending, Split, sent_by, version_of};
 pub use split_lines::{
     Gone, SplitCauseText, SplitText, gone_of, push_split_counts, push_splits, push_told_counts,
     push_told_splits, slot_of,

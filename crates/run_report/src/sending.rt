@@ -26,7 +26,7 @@ pub struct Split {
 
 /// The version under which an event serves; 0 where it is no serving.
 #[inline(always)]
-pub(crate) fn version_of(event: &Event) -> u32
+pub fn version_of(event: &Event) -> u32
     ensures { result ≡ version_of event.now }
 {
     match event {
