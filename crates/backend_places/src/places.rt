@@ -17,8 +17,8 @@ const HINTS: usize = 64;
 #[derive(Drop)]
 pub struct Backends {
     all: Vec<Backend>,
-    // For the low bits of an address the place that was found last. It is compared before it is believed.
-    hints: [u32; HINTS],
+    // For the low bits of an address the place that was found last, once there was one. It is compared before it is believed.
+    hints: Vec<u32>,
     // Where each was put. Addresses stand in front: mostly they differ, and are compared at once.
     places: BTreeMap<(u32, Name), u32>,
 }
@@ -48,7 +48,7 @@ impl Backends {
     {
         Backends {
             all: Vec::new(alloc),
-            hints: [0; HINTS],
+            hints: Vec::new(alloc),
             places: BTreeMap::new(alloc),
         }
     }
@@ -113,6 +113,18 @@ impl Backends {
         }
     }
 
+    // A search for a backend with these low bits of its address begins here. Where memory for the hints is refused there are none.
+    fn keep_hint(&mut self, backend: &Backend, place: u32)
+        ensures { self.new ≡ self.old }
+    {
+        if self.hints.is_empty() {
+            let _ = self.hints.resize(HINTS, 0);
+        }
+        if let Some(hint) = self.hints.get_mut(backend.addr as usize % HINTS) {
+            *hint = place;
+        }
+    }
+
     /// The place of a backend: a new one where it has none. Where memory is refused, the others keep their places too.
     #[inline(always)]
     pub fn place_of(&mut self, backend: &Backend) -> Result<u32, AllocError>
@@ -121,13 +133,13 @@ impl Backends {
         ensures grown { OnOk result ((self.new ≡ self.old) ⊎ (self.new ≡ self.old ++ backend.now ∷ [])) }
         ensures refused { OnErr result (self.new ≡ self.old) }
     {
-        let hint = backend.addr as usize % HINTS;
-        let told = self.hints[hint];
+        let hint = self.hints.get(backend.addr as usize % HINTS);
+        let told = hint.copied().unwrap_or(0);
         if self.is_at(told, backend) {
             return Ok(told);
         }
         let place = self.find_or_push(backend)?;
-        self.hints[hint] = place;
+        self.keep_hint(backend, place);
         Ok(place)
     }
 }
