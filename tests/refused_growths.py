@@ -194,6 +194,7 @@ CASES = [
     Case(["compare", "--scenario", "s.toml", "--from", "1", "--to", "2"], DOWN, files=SPLIT),
     Case(["pick", "--scenario", "s.toml", "--version", "1"], PICKED, TCP, files=FILES),
     Case(["simulate", "--where", "--summary", "s.toml", "in.pcap", "out.pcap"], PLACES + TWO + SUMMARY, files=SPLIT),
+    Case(["simulate", "--summary", "s.toml", "in.pcap", "out.pcap"], TWO + SUMMARY, files=SPLIT),
     Case(["simulate", "--syn", "--where", "--summary", "s.toml", "in.pcap", "out.pcap"], AGAIN.splits(True) + AGAIN.report() + AGAIN.summary(), files=BEGUN),
     Case(["simulate", "--syn-after", "60", "--json", *ASKED, "s.toml", "in.pcap", "out.pcap"], objects.text_of(objects.simulated(AGAIN, *ASKED)), files=BEGUN, faults=IN_OBJECTS),
     Case(["run", "--where", "--summary", "--pace", "s.toml", "in.pcap", "out.pcap"], RUN_PLACES + TWO + "audit agrees\n" + SUMMARY, files=SPLIT, faults=[LOST]),

@@ -81,3 +81,32 @@ fn flows_stay_at_their_places(rt: HostRuntime) {
     }
     assert_eq!(&rt; value_of(&map, first), Some(9));
 }
+
+// Whatever is guessed, a flow is found where it stands, and nowhere where it doesn't. A guess by the flow's hash is mostly right.
+#[test]
+fn a_guess_decides_nothing(rt: HostRuntime) {
+    let key = TableKey::fixed();
+    let mut map = FlowMap::new(rt.alloc(), key);
+    assert_eq!(&rt; map.guess(7), 0);
+    for number in 0..3000 {
+        let before = put(&mut map, flow(number), number).expect(&rt, "memory");
+        assert_eq!(&rt; before, None);
+    }
+    let mut right = 0u32;
+    for number in 0..3000 {
+        let flow = flow(number);
+        let guess = map.guess(key.hash_of(&flow));
+        if guess == number + 1 {
+            right = right.wrapping_add(1);
+        }
+        assert_eq!(&rt; map.is_at(guess, &flow), guess == number + 1);
+        for other in [guess, 0, number, number + 1, u32::MAX] {
+            assert_eq!(&rt; map.place_by(other, &flow), Some(number + 1));
+        }
+    }
+    assert!(&rt; right > 2700);
+    let absent = flow(3000);
+    for guess in [map.guess(key.hash_of(&absent)), 0, 1, 3001] {
+        assert_eq!(&rt; map.place_by(guess, &absent), None);
+    }
+}

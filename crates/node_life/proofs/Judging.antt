@@ -1,7 +1,7 @@
 -- What the records of a life are judged to be.
 use Rattle.std.proofs.Common.{◌≡◌, ◌≤◌, ℕ, zero, suc, Bool, true, List, [], ◌∷◌, ◌++◌, map, Result, Ok, Err, length, refl, ap, sym, subst, ◌∙◌, arith}
 use Rattle.std.specs.Prelude.{not, slice_get, IsErrAnd}
-use Rattle.std.proofs.lemmas.List.{append_assoc}
+use Rattle.std.proofs.lemmas.List.{append_assoc, append-nil}
 use Rattle.pool_versions.specs.Pool.{Pools}
 use Rattle.cluster_core.specs.Setups.{Fixed}
 use Rattle.thread_records.specs.Works.{WorkView}
@@ -25,6 +25,11 @@ stops_past (c ∷ cs) (suc at) h = stops_past cs at (omega arith)
 -- one more record
 pub records_step : {R W : Type 0} (f : R → W) (old new : List W) (run : R) (rest all : List R) (runs : List W) → new ≡ old ++ f run ∷ [] → run ∷ rest ≡ all → old ++ map f all ≡ runs → new ++ map f rest ≡ runs
 records_step f old new run rest all runs items front had = ap (λ l. l ++ map f rest) items ∙ append_assoc old (f run ∷ []) (map f rest) ∙ ap (λ l. old ++ map f l) front ∙ had
+
+-- none is left, so these are all
+pub records_all : {R W : Type 0} (f : R → W) (done : List W) (rest : List R) (runs : List W) → length rest ≡ 0 → done ++ map f rest ≡ runs → done ≡ runs
+records_all f done [] runs none had = sym (append-nil done) ∙ had
+records_all f done (run ∷ rest) runs none had = absurd cc
 
 module _ {S H : Type 0} (eq : S → S → Bool) (setup : Fixed S H) (pools : Pools) where
   -- the same of other names for the records, where a fault is passed on

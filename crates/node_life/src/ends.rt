@@ -18,6 +18,7 @@ ghost use Rattle.thread_roles.specs.Going.{Going, IsDriven, IsEnded};
 ghost use Rattle.thread_roles.specs.declared.fault.RunFault.TheVariants.{Foreign};
 ghost use Rattle.node_life.specs.Judged.{AreOfCluster, JudgesEnd, drained_at};
 
+use crate::rings::roomy;
 use cluster_core::Setup;
 use connection_table::ConnTable;
 use hash_laws::FlowHash;
@@ -87,7 +88,7 @@ fn muster<S: Scheme, T: ConnTable, B: Names>(
     ensures counts { (os : List Outcome) (n : ℕ) → Counts tally.old.lost tally.old.shares os →
         IfOk result (λ v. Counts tally.new.lost tally.new.shares (os ++ served_from n 0 (all_handled v.items))) }
 {
-    let mut workers = Vec::new(alloc);
+    let mut workers = roomy(alloc, runs.len());
     for done in runs {
         let WorkerRun {
             record,

@@ -6,3 +6,4 @@ pub mod Noted
 pub mod Listed
 pub mod Parting
 pub mod Turning
+pub mod Summed

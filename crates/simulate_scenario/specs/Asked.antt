@@ -38,6 +38,10 @@ unlisted w = record w { list = false }
 abbrev pub is_plain : Wanted → Bool
 is_plain w = not (w.list || w.splits || w.places || w.backends || w.nodes || w.summary)
 
+-- the report is wanted with a summary, and nothing else
+abbrev pub is_summary : Wanted → Bool
+is_summary w = w.summary && not (w.list || w.splits || w.places || w.backends || w.nodes)
+
 -- the report alone is asked for
 abbrev pub is_report_alone : Query → Bool
 is_report_alone (Report wanted) = is_plain wanted

@@ -47,7 +47,8 @@ pub fn is_cut(ending: InputEnd) -> bool
     }
 }
 
-fn plain_report(
+/// The report alone.
+pub(crate) fn plain_report(
     alloc: Global,
     form: Form,
     ended: &Ended,

@@ -24,7 +24,7 @@ pub struct Wanted {
 
 impl Wanted {
     ghost use Rattle.simulate_scenario.specs.Turned.{unturned};
-    ghost use Rattle.simulate_scenario.specs.Asked.{unlisted, is_plain, asked_shares, keeps_splits, keeps_changes, keeps_only_changes};
+    ghost use Rattle.simulate_scenario.specs.Asked.{unlisted, is_plain, is_summary, asked_shares, keeps_splits, keeps_changes, keeps_only_changes};
 
     /// The report alone.
     pub const REPORT: Wanted = Wanted {
@@ -64,6 +64,13 @@ impl Wanted {
         ensures { result ≡ is_plain self }
     {
         !(self.list || self.splits || self.places || self.backends || self.nodes || self.summary)
+    }
+
+    /// Whether it is the report with a summary, and nothing else.
+    pub(crate) fn is_summary(self) -> bool
+        ensures { result ≡ is_summary self }
+    {
+        self.summary && !(self.list || self.splits || self.places || self.backends || self.nodes)
     }
 
     /// Whose shares are wanted.

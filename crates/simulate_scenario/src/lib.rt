@@ -8,6 +8,7 @@ mod ended;
 mod notes;
 mod paging;
 mod playing;
+mod summing;
 mod turned;
 
 pub use answering::is_cut;

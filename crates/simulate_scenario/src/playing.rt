@@ -1,5 +1,5 @@
 //! A scenario is played.
-ghost use Rattle.std.specs.Prelude.{◌≡◌, ◌≤◌, [], ◌∷◌, ℕ, List, IfOk, IfErr, string_bytes, length};
+ghost use Rattle.std.specs.Prelude.{◌≡◌, ◌≤◌, [], ◌∷◌, ℕ, true, List, None, IfOk, IfErr, string_bytes, length};
 ghost use Rattle.hash_laws.specs.Any.{plain_of};
 ghost use Rattle.event_trace.specs.Steps.{below};
 ghost use Rattle.cluster_core.specs.Deployed.{cluster_of};
@@ -10,6 +10,7 @@ ghost use Rattle.simulate_scenario.specs.Described.{StoppedIn, cluster_in, choic
 ghost use Rattle.named_scheme.specs.Picking.{pick_of};
 ghost use Rattle.named_spread.specs.Choosing.{choice_by, choice_of, live_of};
 ghost use Rattle.simulate_scenario.specs.Answers.{AnswersIn, CountedIn};
+ghost use Rattle.simulate_scenario.specs.Asked.{is_summary};
 ghost use Rattle.simulate_scenario.specs.Told.{AnswersBy, IsToldAnswer, ToldIn};
 ghost use Rattle.simulation.specs.declared.fault.SimulationFault.TheVariants as SimulationFault;
 ghost use Rattle.simulate_scenario.specs.Kept.{KeepsPromises};
@@ -19,10 +20,11 @@ ghost use Rattle.simulate_scenario.specs.Turned.{IsTurnedAnswer, TurnedToldIn};
 ghost use Rattle.simulate_scenario.specs.declared.asking.Query.TheVariants.{Report};
 
 use crate::answering::{Answering, Asking};
-use crate::asking::{Answer, Query};
+use crate::asking::{Answer, Query, Wanted};
 use crate::ended::Ended;
 use crate::notes::Notebook;
 use crate::paging::{Listing, PagedNotes, asking_paged};
+use crate::summing::SummaryNotes;
 use crate::turned::{TurnedListing, TurnedNotes, asking_turned};
 use cluster_core::{Deployment, Setup};
 use connection_table::{PlaceTable, TableKey};
@@ -202,6 +204,62 @@ where
     }
 }
 
+// Plays a scenario, and notes all that may be asked of its run.
+fn play_noted<I: Source, O: Outlet>(
+    alloc: Global,
+    key: TableKey,
+    scenario: Scenario,
+    asked: Query,
+    input: &mut I,
+    output: &mut O,
+) -> Result<Answer, SimulationFault>
+    ensures counts { IfOk result (λ a. CountedIn scenario asked (I.tape input.old) (I.tape input.new) (O.tape output.old) (O.tape output.new)
+        (string_bytes a.text) a.counts) }
+    ensures stopped { IfErr result (StoppedIn scenario (I.tape input.old) (I.tape input.new) (O.tape output.old) (O.tape output.new)) }
+{
+    let Ok(notes) = Notebook::make(alloc, key, &asked) else {
+        return Err(SimulationFault::Memory);
+    };
+    let asking = Asking { asked, notes };
+    let part = PartSetup {
+        only: None,
+        whole: scenario,
+    };
+    match play_named(alloc, key, part, asking, input, output) {
+        Ok((answer, _)) => Ok(answer),
+        Err(given_up) => Err(given_up.fault),
+    }
+}
+
+// Plays a scenario without an idle limit for a report with a summary alone.
+fn play_summed<I: Source, O: Outlet>(
+    alloc: Global,
+    key: TableKey,
+    scenario: Scenario,
+    wanted: Wanted,
+    input: &mut I,
+    output: &mut O,
+) -> Result<Answer, SimulationFault>
+    requires wanted { is_summary wanted ≡ true }
+    requires idle { scenario.idle ≡ None }
+    ensures counts { IfOk result (λ a. CountedIn scenario (Report wanted) (I.tape input.old) (I.tape input.new) (O.tape output.old) (O.tape output.new)
+        (string_bytes a.text) a.counts) }
+    ensures stopped { IfErr result (StoppedIn scenario (I.tape input.old) (I.tape input.new) (O.tape output.old) (O.tape output.new)) }
+{
+    let asking = Asking {
+        asked: wanted,
+        notes: SummaryNotes::new(alloc, key),
+    };
+    let part = PartSetup {
+        only: None,
+        whole: scenario,
+    };
+    match play_named(alloc, key, part, asking, input, output) {
+        Ok((answer, _)) => Ok(answer),
+        Err(given_up) => Err(given_up.fault),
+    }
+}
+
 /// Plays a scenario over a capture, and answers what is asked of the run. What the cluster sends goes to the
 /// outlet, whose capture is begun once the input's header was accepted. Whatever goes wrong but a write, the output is cut between
 /// records. The connection tables and the books of splits and changes hash by the key. The memory of a run is given back before its answer
@@ -235,17 +293,11 @@ pub fn play_scenario<I: Source, O: Outlet>(
 {
     let _slots = scenario.size.slots();
     scenario.catalogue.keeps_doubles_out();
-    let Ok(notes) = Notebook::make(alloc, key, &asked) else {
-        return Err(SimulationFault::Memory);
-    };
-    let asking = Asking { asked, notes };
-    let part = PartSetup {
-        only: None,
-        whole: scenario,
-    };
-    match play_named(alloc, key, part, asking, input, output) {
-        Ok((answer, _)) => Ok(answer),
-        Err(given_up) => Err(given_up.fault),
+    match asked {
+        Query::Report(wanted) if wanted.is_summary() && scenario.idle.is_none() => {
+            play_summed(alloc, key, scenario, wanted, input, output)
+        }
+        _ => play_noted(alloc, key, scenario, asked, input, output),
     }
 }
 

@@ -6,7 +6,7 @@ use Rattle.thread_records.specs.Ends.{all_handled}
 use Rattle.cluster_node.specs.declared.outcomes.Outcome.{Outcome}
 use Rattle.thread_roles.specs.Counts.{Counts, IsWork, served_from}
 use Rattle.thread_roles.proofs.Counting.{counts_more}
-use Rattle.node_life.proofs.Judging.{records_step}
+use Rattle.node_life.proofs.Judging.{records_step, records_all}
 use Rattle.node_life.proofs.ends.muster.Goals as goal
 
 pub loop-done-preserved : goal.loop-done-preserved
@@ -31,6 +31,9 @@ loop-done-init g c = record {
   left = All-same (λ w. IsWork w.record w.tally.lost w.tally.shares) c.into_iter-done-iterator.result.rest.items c.args.runs.items (search rules) c.requires;
   records = search rules;
   parts = search rules;
-  counts = λ os n h. subst (λ (ws : List (WorkView g.row.S.Denot)). Counts c.args.tally.now.lost c.args.tally.now.shares (os ++ served_from n 0 (all_handled ws))) (sym c.new-workers.ensures.items)
+  counts = λ os n h. subst (λ (ws : List (WorkView g.row.S.Denot)). Counts c.args.tally.now.lost c.args.tally.now.shares (os ++ served_from n 0 (all_handled ws))) (sym c.roomy-workers.ensures)
       (subst (λ (l : List Outcome). Counts c.args.tally.now.lost c.args.tally.now.shares l) (sym (append-nil os)) h);
 }
+
+pub returns-clause-records : goal.returns-clause-records
+returns-clause-records g c = records_all (λ w. w.record) c.loop-done.workers.items c.loop-done.done-iterator.rest.items _ (search rules) c.loop-done.invariant.records
