@@ -1,5 +1,6 @@
 -- The run of a scenario keeps the promises.
-use Rattle.std.proofs.Common.{◌≡◌, ℕ, true, List, reverse, sym, ap, subst, refl}
+use Rattle.std.proofs.Common.{◌≡◌, ℕ, true, List, Result, Ok, Err, reverse, string_bytes, sym, ap, subst, refl}
+use Rattle.std.specs.Prelude.{IfOk}
 use Rattle.std.proofs.lemmas.List.{reverse-reverse}
 use Rattle.hash_laws.specs.Any.{plain_of}
 use Rattle.backend_names.specs.Sizes.{is_table_size}
@@ -20,8 +21,11 @@ use Rattle.scenario_keys.specs.declared.words.SchemeKind.TheVariants.{Maglev}
 use Rattle.simulation.specs.Plans.{Planned}
 use Rattle.simulation.specs.Simulated.{Simulated}
 use Rattle.named_scheme.specs.Picking.{pick_by}
+use Rattle.simulate_scenario.specs.Answers.{AnswersIn}
 use Rattle.simulate_scenario.specs.Described.{rules_in, cluster_in}
 use Rattle.simulate_scenario.specs.Kept.{KeepsPromises}
+use Rattle.simulate_scenario.specs.declared.asking.Answer.{Answer}
+use Rattle.simulate_scenario.specs.declared.asking.Query.{Query}
 use Rattle.simulate_scenario.proofs.Runs.{judged}
 
 maglev_in : (s : Scenario) → is_table_size s.size ≡ true → AreSound s.catalogue → s.scheme ≡ Maglev → AreMaglevs (plain_of s.hash) s.size s.catalogue (rules_in s)
@@ -40,3 +44,9 @@ keeps_judged s c listed sound j =
 
 pub keeps : (s : Scenario) (choice : Choice) (plan : Planned) (i i' o o' : Tape) (c : Trace) (n : ℕ) (e : InputEnd) → is_table_size s.size ≡ true → AreSound s.catalogue → Simulated (cluster_in s) choice plan i i' o o' c n e → KeepsPromises s c
 keeps s choice plan i i' o o' c n e listed sound run = keeps_judged s c listed sound (judged (cluster_in s) choice plan i i' o o' c n e run)
+
+-- so does a run for any answer
+pub keeps_any : {E : Type 0} (r : Result Answer E) (s : Scenario) (asked : Query) (i i' o o' : Tape) → is_table_size s.size ≡ true → AreSound s.catalogue
+    → IfOk r (λ a. (answers : AnswersIn s asked i i' o o' (string_bytes a.text)) → KeepsPromises s answers.trace)
+keeps_any (Err e) s asked i i' o o' listed sound = tt
+keeps_any (Ok a) s asked i i' o o' listed sound = λ answers. keeps s _ _ i i' o o' answers.trace answers.packets answers.ending listed sound answers.simulated

@@ -1,5 +1,5 @@
 -- A report with a summary alone, of a run without an idle limit.
-use Rattle.std.proofs.Common.{◌≡◌, ℕ, Bool, true, false, List, [], ◌∷◌, ◌++◌, length, map, not, Option, None, refl, sym, ap, ◌∙◌, subst, string_bytes}
+use Rattle.std.proofs.Common.{◌≡◌, ℕ, Bool, true, false, List, [], ◌∷◌, ◌++◌, length, map, not, Option, Some, None, refl, sym, ap, ◌∙◌, subst, string_bytes}
 use Rattle.std.specs.Prelude.{◌&&◌, ◌||◌, codes}
 use Rattle.std.specs.List.{flat_map}
 use Rattle.std.proofs.lemmas.List.{append-nil, length-map}
@@ -11,7 +11,8 @@ use Rattle.event_trace.specs.Trace.{Trace}
 use Rattle.run_report.specs.Causes.{Lookups}
 use Rattle.run_report.specs.Report.{count_line}
 use Rattle.connection_changes.specs.declared.causes.ChangeCause.{ChangeCause}
-use Rattle.connection_changes.specs.Changes.{cause_in, changes_by}
+use Rattle.cluster_node.specs.declared.events.LogEntry.{LogEntry}
+use Rattle.connection_changes.specs.Changes.{cause_in, changes_by, counts_of}
 use Rattle.connection_changes.specs.Texts as plain
 use Rattle.connection_changes.specs.Turns.{Reckoning, reckoning_of}
 use Rattle.json_lines.specs.declared.forms.Form.{Form}
@@ -21,8 +22,8 @@ use Rattle.json_lines.specs.Summaries as json
 use Rattle.summary_book.specs.Bare.{bare_change, bare_reckoning}
 use Rattle.summary_book.proofs.Causes.{causes_kept, counts_kept}
 use Rattle.simulation.specs.Plans.{Planned}
-use Rattle.simulate_scenario.specs.Answers.{listing_if, splits_if, summary_if, plain_report, report_of, CountedAnswers}
-use Rattle.simulate_scenario.specs.Asked.{begun, is_summary}
+use Rattle.simulate_scenario.specs.Answers.{listing_if, splits_if, summary_if, plain_report, report_of, counts_if, CountedAnswers}
+use Rattle.simulate_scenario.specs.Asked.{begun, is_summary, keeps_changes}
 use Rattle.simulate_scenario.specs.Summed.{IsSummedAnswer}
 use Rattle.simulate_scenario.specs.Told.{AnswersBy}
 use Rattle.simulate_scenario.specs.declared.asking.Answer.{Answer}
@@ -36,7 +37,7 @@ each_piece f g same (x ∷ xs) = ap (λ (t : List ℕ). t ++ flat_map f xs) (sam
 plain_kept : (lookups : Lookups) (r : Reckoning) → plain.summary_in lookups None (bare_reckoning r) ≡ plain.summary_in lookups None r
 unfolding plain.summary_in
 plain_kept lookups r =
-    ap (λ (n : ℕ). first ++ (second ++ (count_line (codes "changes") n ++ lines (bare_reckoning r)))) (length-map bare_change r.changes)
+    ap (λ (n : ℕ). first ++ (second ++ (count_line (codes "changes") n ++ lines (bare_reckoning r)))) (length-map r.changes bare_change)
     ∙ ap (λ (t : List ℕ). first ++ (second ++ (count_line (codes "changes") (length r.changes) ++ t)))
     (each_piece (λ cause. plain.cause_line cause (changes_by lookups None (map bare_change r.changes) cause)) (λ cause. plain.cause_line cause (changes_by lookups None r.changes cause))
     (λ cause. ap (λ (n : ℕ). plain.cause_line cause n) (counts_kept lookups r.changes cause)) plain.causes)
@@ -53,7 +54,7 @@ plain_kept lookups r =
 json_kept : (lookups : Lookups) (r : Reckoning) → json.summary_in lookups None (bare_reckoning r) ≡ json.summary_in lookups None r
 unfolding json.summary_in
 json_kept lookups r =
-    ap (λ (n : ℕ). json.summary_line r.connections r.changed n (map (λ c. cause_in lookups None c) (map bare_change r.changes))) (length-map bare_change r.changes)
+    ap (λ (n : ℕ). json.summary_line r.connections r.changed n (map (λ c. cause_in lookups None c) (map bare_change r.changes))) (length-map r.changes bare_change)
     ∙ ap (λ (made : List ChangeCause). json.summary_line r.connections r.changed (length r.changes) made) (causes_kept lookups r.changes)
 
 summary_kept : (form : Form) (lookups : Lookups) (r : Reckoning) → summary_by form lookups None (bare_reckoning r) ≡ summary_by form lookups None r
@@ -84,6 +85,15 @@ summed_told w lookups idle trace packets ending alone none = go w.list w.splits 
     go false false true a b true h = absurd cc
     go false false false true b true h = absurd cc
     go false false false false true true h = absurd cc
+
+-- the counts of its connections
+pub summed_counts : (w : Wanted) (past : List LogEntry) → is_summary w ≡ true → Some (counts_of past) ≡ counts_if (keeps_changes w.places w.summary) past
+summed_counts w past alone = go w.list w.splits w.places w.backends w.nodes w.summary alone
+  where
+    go : (l t p a b u : Bool) → (u && not (l || t || p || a || b)) ≡ true → Some (counts_of past) ≡ counts_if (keeps_changes p u) past
+    go l t true a b true h = refl
+    go l t false a b true h = refl
+    go l t p a b false h = absurd cc
 
 -- such an answer is one to what was asked, with the counts of its connections
 pub summed_answers : (cluster : Cluster) (choice : Choice) (plan : Planned) (lookups : Lookups) (idle : Option ℕ) (w : Wanted) (a : Answer) (i i' o o' : Tape) → is_summary w ≡ true → idle ≡ None

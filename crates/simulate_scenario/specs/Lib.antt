@@ -4,6 +4,7 @@ pub mod Answers
 pub mod Kept
 pub mod Notebooks
 pub mod Paging
+pub mod Summed
 pub mod Told
 pub mod Parts
 pub mod Ends

@@ -1,5 +1,5 @@
 //! A scenario is played.
-ghost use Rattle.std.specs.Prelude.{◌≡◌, ◌≤◌, [], ◌∷◌, ℕ, true, List, None, IfOk, IfErr, string_bytes, length};
+ghost use Rattle.std.specs.Prelude.{◌≡◌, ◌≤◌, [], ◌∷◌, ℕ, true, List, None, IfSome, IfOk, IfErr, string_bytes, length};
 ghost use Rattle.hash_laws.specs.Any.{plain_of};
 ghost use Rattle.event_trace.specs.Steps.{below};
 ghost use Rattle.cluster_core.specs.Deployed.{cluster_of};
@@ -231,6 +231,16 @@ fn play_noted<I: Source, O: Outlet>(
     }
 }
 
+// What is wanted, where it is a report with a summary alone and there is no idle limit.
+fn summed_by(asked: Query, idle: Option<u64>) -> Option<Wanted>
+    ensures { IfSome result (λ w. (asked ≡ Report w) × (is_summary w ≡ true) × (idle ≡ None)) }
+{
+    match asked {
+        Query::Report(wanted) if wanted.is_summary() && idle.is_none() => Some(wanted),
+        _ => None,
+    }
+}
+
 // Plays a scenario without an idle limit for a report with a summary alone.
 fn play_summed<I: Source, O: Outlet>(
     alloc: Global,
@@ -293,11 +303,9 @@ pub fn play_scenario<I: Source, O: Outlet>(
 {
     let _slots = scenario.size.slots();
     scenario.catalogue.keeps_doubles_out();
-    match asked {
-        Query::Report(wanted) if wanted.is_summary() && scenario.idle.is_none() => {
-            play_summed(alloc, key, scenario, wanted, input, output)
-        }
-        _ => play_noted(alloc, key, scenario, asked, input, output),
+    match summed_by(asked, scenario.idle) {
+        Some(wanted) => play_summed(alloc, key, scenario, wanted, input, output),
+        None => play_noted(alloc, key, scenario, asked, input, output),
     }
 }
 

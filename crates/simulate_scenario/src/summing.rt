@@ -86,7 +86,8 @@ impl Notes for SummaryNotes {
         packet: Option<&Packet>,
         outcome: &Outcome,
     ) -> Result<(), AllocError> {
-        let _ = (asked, packet);
+        let _ = asked;
+        let _ = packet;
         self.counts.count(outcome)?;
         self.book.note(event, outcome)
     }

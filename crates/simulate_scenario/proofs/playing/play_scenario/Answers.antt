@@ -1,12 +1,20 @@
-use Rattle.simulate_scenario.proofs.Carries.{counted_answers}
-use Rattle.simulate_scenario.proofs.Keeping.{keeps}
+use Rattle.std.proofs.Common.{string_bytes, subst, sym}
+use Rattle.std.specs.Prelude.{IfOk}
+use Rattle.simulate_scenario.specs.Answers.{CountedIn}
+use Rattle.simulate_scenario.specs.declared.asking.Query.{Query}
+use Rattle.simulate_scenario.proofs.Keeping.{keeps_any}
 use Rattle.simulate_scenario.proofs.playing.play_scenario.Goals as goal
 
-pub returns-in-Ok-play_named-clause-kept : goal.returns-in-Ok-play_named-clause-kept
-returns-in-Ok-play_named-clause-kept g c = λ a. keeps c.args.scenario _ _ _ _ _ _ a.trace a.packets a.ending c.slots-slots.ensures.listed c.keeps_doubles_out.ensures a.simulated
+pub returns-in-Some-clause-counts : goal.returns-in-Some-clause-counts
+returns-in-Some-clause-counts g c =
+    subst (λ (q : Query). IfOk c.play_summed.result (λ a. CountedIn c.args.scenario q (g.I.Source.tape c.args.input.now) (g.I.Source.tape c.play_summed.new.input)
+    (g.O.Outlet.tape c.args.output.now) (g.O.Outlet.tape c.play_summed.new.output) (string_bytes a.text) a.counts)) (sym c.in-Some.ensures.0) c.play_summed.ensures.counts
 
-pub returns-in-Ok-play_named-clause-ok : goal.returns-in-Ok-play_named-clause-ok
-returns-in-Ok-play_named-clause-ok g c = (counted_answers _ _ _ _ _ _ c.in-Ok-play_named.answer _ _ _ _ c.in-Ok-play_named.ensures.ok).0
+pub returns-in-Some-clause-kept : goal.returns-in-Some-clause-kept
+returns-in-Some-clause-kept g c = keeps_any c.play_summed.result c.args.scenario c.args.asked _ _ _ _ c.slots-slots.ensures.listed c.keeps_doubles_out.ensures
 
-pub returns-in-Ok-play_named-clause-counts : goal.returns-in-Ok-play_named-clause-counts
-returns-in-Ok-play_named-clause-counts g c = counted_answers _ _ _ _ _ _ c.in-Ok-play_named.answer _ _ _ _ c.in-Ok-play_named.ensures.ok
+pub returns-in-None-clause-counts : goal.returns-in-None-clause-counts
+returns-in-None-clause-counts g c = c.play_noted.ensures.counts
+
+pub returns-in-None-clause-kept : goal.returns-in-None-clause-kept
+returns-in-None-clause-kept g c = keeps_any c.play_noted.result c.args.scenario c.args.asked _ _ _ _ c.slots-slots.ensures.listed c.keeps_doubles_out.ensures
