@@ -111,9 +111,8 @@ impl SummaryBook {
         ensures sents { (all : List Sent) → HasSents all self.old → OnOk result (HasSents (sent ∷ all) self.new) }
         ensures lives { self.new.lives ≡ self.old.lives }
     {
-        let Ok(()) = self.waiting.push(sent) else {
-            return Err(AllocError);
-        };
+        self.waiting.reserve(1)?;
+        self.waiting.push_reserved(sent);
         if self.waiting.len() < AT_ONCE {
             return Ok(());
         }
