@@ -21,7 +21,7 @@ use report_advice::{Asked, advice_of, up_to_report};
 use rollout_order::order;
 use rollout_plan::plan_as;
 use scenario::{Played, read};
-use scenario_commands::{simulate_listed, simulate_part, simulate_turned};
+use scenario_commands::{simulate_keyed, simulate_listed, simulate_part, simulate_turned};
 use scenario_diagnostics::{warning_text, warnings};
 use scenario_faults::PlacedFault;
 use shown_text::shown;
@@ -287,6 +287,12 @@ fn wanted_of(matches: &ArgMatches<'_>) -> Wanted {
     }
 }
 
+// Whether nothing but a summary is wanted beside the report. Then nothing is written before the run's end.
+fn is_summary_alone(wanted: Wanted) -> bool {
+    let is_more = wanted.list || wanted.splits || wanted.places || wanted.backends || wanted.nodes;
+    wanted.summary && !is_more
+}
+
 // The command `simulate`, where flows that begin again are other connections.
 fn run_turned(rt: &HostRuntime, matches: &ArgMatches<'_>, idle: Option<u64>) -> u8 {
     let only = matches.get_one::<u16>("node");
@@ -327,15 +333,23 @@ fn run_plain(rt: &HostRuntime, matches: &ArgMatches<'_>) -> u8 {
         AtEnd::Read,
         |key, text, input, output, report| {
             let alloc = rt.alloc();
-            let done = match only {
-                None => simulate_listed(alloc, key, text, input, output, report, wanted),
+            match only {
+                None if is_summary_alone(wanted) => {
+                    let mut report = report;
+                    simulate_keyed(alloc, key, text, input, output, &mut report, wanted)
+                }
+                None => {
+                    let done = simulate_listed(alloc, key, text, input, output, report, wanted);
+                    done.map(|(counts, _)| counts)
+                }
                 Some(_) => {
                     let pages = report;
                     let part = PartSetup { only, whole: text };
-                    simulate_part(alloc, key, part, input, output, Listing { wanted, pages })
+                    let listing = Listing { wanted, pages };
+                    let done = simulate_part(alloc, key, part, input, output, listing);
+                    done.map(|(counts, _)| counts)
                 }
-            };
-            done.map(|(counts, _)| counts)
+            }
         },
     )
 }
