@@ -102,6 +102,9 @@ def all_came(text):
 # What the model says of two packets of one flow at two nodes, simulated and on threads.
 TOLD = model.Run(APART.decode(), SPLIT["in.pcap"])
 PLACES, SUMMARY, RUN_PLACES, SHARES = TOLD.splits(True), TOLD.summary(), TOLD.on_threads().splits(True), TOLD.taken() + TOLD.taken(True)
+# 2,000 packets of it, so that some wait while others are looked up.
+TURNS = {"s.toml": APART.replace(b'"take 2"', b'"take 2000"'), "in.pcap": CAPTURE + 1_999 * CAPTURE[24:]}
+BY_TURNS = model.Run(TURNS["s.toml"].decode(), TURNS["in.pcap"])
 # The same flow, which ends and begins again: its segments have FIN, SYN and ACK, in turns.
 FLAGGED = [CAPTURE[24:73] + bytes([flags]) + CAPTURE[74:] for flags in [1, 2, 16, 1, 2, 16]]
 BEGUN = {"s.toml": APART.replace(b"take 2", b"take 6"), "in.pcap": CAPTURE[:24] + b"".join(FLAGGED)}
@@ -195,6 +198,7 @@ CASES = [
     Case(["pick", "--scenario", "s.toml", "--version", "1"], PICKED, TCP, files=FILES),
     Case(["simulate", "--where", "--summary", "s.toml", "in.pcap", "out.pcap"], PLACES + TWO + SUMMARY, files=SPLIT),
     Case(["simulate", "--summary", "s.toml", "in.pcap", "out.pcap"], TWO + SUMMARY, files=SPLIT),
+    Case(["simulate", "--summary", "s.toml", "in.pcap", "out.pcap"], BY_TURNS.report() + BY_TURNS.summary(), files=TURNS),
     Case(["simulate", "--syn", "--where", "--summary", "s.toml", "in.pcap", "out.pcap"], AGAIN.splits(True) + AGAIN.report() + AGAIN.summary(), files=BEGUN),
     Case(["simulate", "--syn-after", "60", "--json", *ASKED, "s.toml", "in.pcap", "out.pcap"], objects.text_of(objects.simulated(AGAIN, *ASKED)), files=BEGUN, faults=IN_OBJECTS),
     Case(["run", "--where", "--summary", "--pace", "s.toml", "in.pcap", "out.pcap"], RUN_PLACES + TWO + "audit agrees\n" + SUMMARY, files=SPLIT, faults=[LOST]),

@@ -1,7 +1,6 @@
 -- What the records of a life are judged to be.
-use Rattle.std.proofs.Common.{◌≡◌, ◌≤◌, ℕ, zero, suc, Bool, true, List, [], ◌∷◌, ◌++◌, map, Result, Ok, Err, length, refl, ap, sym, subst, ◌∙◌, arith}
+use Rattle.std.proofs.Common.{◌≡◌, ◌≤◌, ℕ, zero, suc, Bool, true, List, [], ◌∷◌, Result, Ok, Err, length, refl, sym, subst, arith}
 use Rattle.std.specs.Prelude.{not, slice_get, IsErrAnd}
-use Rattle.std.proofs.lemmas.List.{append_assoc, append-nil}
 use Rattle.pool_versions.specs.Pool.{Pools}
 use Rattle.cluster_core.specs.Setups.{Fixed}
 use Rattle.thread_records.specs.Works.{WorkView}
@@ -9,7 +8,6 @@ use Rattle.thread_records.specs.Journals.{JournalView}
 use Rattle.thread_records.specs.declared.command.Command.{Command}
 use Rattle.thread_roles.specs.Going.{stops}
 use Rattle.thread_roles.specs.declared.fault.RunFault.{RunFault}
-use Rattle.thread_roles.specs.declared.fault.RunFault.TheVariants.{Memory}
 use Rattle.thread_records.specs.declared.journal.closing.LifeFault.{LifeFault}
 use Rattle.thread_records.specs.declared.journal.closing.LifeFault.TheVariants as lives
 use Rattle.thread_records.specs.Ends.{all_handled, JudgesLife}
@@ -22,34 +20,17 @@ stops_past [] at h = refl
 stops_past (c ∷ cs) zero h = absurd (omega arith)
 stops_past (c ∷ cs) (suc at) h = stops_past cs at (omega arith)
 
--- one more record
-pub records_step : {R W : Type 0} (f : R → W) (old new : List W) (run : R) (rest all : List R) (runs : List W) → new ≡ old ++ f run ∷ [] → run ∷ rest ≡ all → old ++ map f all ≡ runs → new ++ map f rest ≡ runs
-records_step f old new run rest all runs items front had = ap (λ l. l ++ map f rest) items ∙ append_assoc old (f run ∷ []) (map f rest) ∙ ap (λ l. old ++ map f l) front ∙ had
-
--- none is left, so these are all
-pub records_all : {R W : Type 0} (f : R → W) (done : List W) (rest : List R) (runs : List W) → length rest ≡ 0 → done ++ map f rest ≡ runs → done ≡ runs
-records_all f done [] runs none had = sym (append-nil done) ∙ had
-records_all f done (run ∷ rest) runs none had = absurd cc
-
 module _ {S H : Type 0} (eq : S → S → Bool) (setup : Fixed S H) (pools : Pools) where
-  -- the same of other names for the records, where a fault is passed on
-  pub judged_exit : {T : Type 0} (r : Result T RunFault) (e : RunFault) (b d : Bool) (j : JournalView) (ws us vs : List (WorkView S)) → IsErrAnd r (λ f. f ≡ e) → b ≡ d → ws ≡ us → us ≡ vs → JudgesEnd {A = Unit {0}} eq setup pools b j ws (Err e) → JudgesEnd {A = T} eq setup pools d j vs r
-  judged_exit (Ok x) e b d j ws us vs is same one two told = absurd is
-  judged_exit (Err f) e b d j ws us vs is same one two told =
-      subst (λ (l : List (WorkView S)). JudgesEnd {A = Unit {0}} eq setup pools d j l (Err f)) (one ∙ two)
-      (subst (λ (c : Bool). JudgesEnd {A = Unit {0}} eq setup pools c j ws (Err f)) same
-      (subst (λ (x : RunFault). JudgesEnd {A = Unit {0}} eq setup pools b j ws (Err x)) (sym is) told))
-
-  -- memory may be refused at any time
-  pub judged_memory : {T : Type 0} (r : Result T RunFault) (d : Bool) (j : JournalView) (ws : List (WorkView S)) → IsErrAnd r (λ f. f ≡ Memory) → JudgesEnd {A = T} eq setup pools d j ws r
-  judged_memory (Ok x) d j ws is = absurd is
-  judged_memory {T} (Err f) d j ws is = subst (λ (x : RunFault). JudgesEnd {A = T} eq setup pools d j ws (Err x)) (sym is) tt
+  -- a fault that is passed on
+  pub judged_exit : {T : Type 0} (r : Result T RunFault) (e : RunFault) (b d : Bool) (j : JournalView) (ws : List (WorkView S)) → IsErrAnd r (λ f. f ≡ e) → b ≡ d → JudgesEnd {A = Unit {0}} eq setup pools b j ws (Err e) → JudgesEnd {A = T} eq setup pools d j ws r
+  judged_exit (Ok x) e b d j ws is same told = absurd is
+  judged_exit (Err f) e b d j ws is same told =
+      subst (λ (c : Bool). JudgesEnd {A = Unit {0}} eq setup pools c j ws (Err f)) same
+      (subst (λ (x : RunFault). JudgesEnd {A = Unit {0}} eq setup pools b j ws (Err x)) (sym is) told)
 
   -- the same where they fit
-  pub judged_whole : (b d : Bool) (j : JournalView) (ws us vs : List (WorkView S)) → b ≡ d → ws ≡ us → us ≡ vs → JudgesEnd {A = Unit {0}} eq setup pools b j ws (Ok tt) → JudgesEnd {A = Unit {0}} eq setup pools d j vs (Ok tt)
-  judged_whole b d j ws us vs same one two told =
-      subst (λ (l : List (WorkView S)). JudgesEnd {A = Unit {0}} eq setup pools d j l (Ok tt)) (one ∙ two)
-      (subst (λ (c : Bool). JudgesEnd {A = Unit {0}} eq setup pools c j ws (Ok tt)) same told)
+  pub judged_whole : (b d : Bool) (j : JournalView) (ws : List (WorkView S)) → b ≡ d → JudgesEnd {A = Unit {0}} eq setup pools b j ws (Ok tt) → JudgesEnd {A = Unit {0}} eq setup pools d j ws (Ok tt)
+  judged_whole b d j ws same told = subst (λ (c : Bool). JudgesEnd {A = Unit {0}} eq setup pools c j ws (Ok tt)) same told
 
   -- a fault of a life whose workers are the cluster's
   pub judged_fault : (d : Bool) (j : JournalView) (ws : List (WorkView S)) (fault : LifeFault) (f : RunFault) → f ≡ run_fault fault → AreOfCluster eq setup pools ws → JudgesLife {A = Unit {0}} d j (all_handled ws) (Err fault) → JudgesEnd {A = Unit {0}} eq setup pools d j ws (Err f)

@@ -1,3 +1,4 @@
 pub mod Homed
+pub mod Idling
 pub mod Judging
 pub mod Telling

@@ -1,6 +1,7 @@
 -- Faults that are passed on, and what they tell of a life.
 use Rattle.std.proofs.Common.{◌≡◌, ℕ, Bool, List, sym, subst}
-use Rattle.std.specs.Prelude.{Result, Ok, Err, IfErr, IsErrAnd, MatchResult}
+use Rattle.std.specs.Prelude.{Result, Ok, Err, IfErr, IsOk, OnOk, IsErrAnd, MatchResult}
+use Rattle.std.proofs.lemmas.Bool.{false≢true}
 use Rattle.cluster_node.specs.Rules.{Rules}
 use Rattle.thread_records.specs.Journals.{JournalView}
 use Rattle.thread_records.specs.Works.{WorkView}
@@ -19,6 +20,11 @@ err_exit P (Err f) e is p = subst P (sym is) p
 pub match_exit : {T E : Type 0} (Q : T → Type 0) (P : E → Type 0) (r : Result T E) (e : E) → IsErrAnd r (λ f. f ≡ e) → P e → MatchResult r Q P
 match_exit Q P (Ok x) e is p = absurd is
 match_exit Q P (Err f) e is p = subst P (sym is) p
+
+-- what a success says, where there is one
+pub is_ok_on : {T E : Type 0} (P : Type 0) (r : Result T E) → IsOk r → OnOk r P → P
+is_ok_on P (Ok x) is p = p
+is_ok_on P (Err e) is p = absurd (false≢true is)
 
 pub is_memory : (fault : RunFault) → fault ≡ Memory → IsRefusal fault
 is_memory fault e = subst IsRefusal (sym e) tt

@@ -1,8 +1,7 @@
 //! How a life of a node ends, once its threads are joined: what its workers did is compared with what was placed on them, and
 //! written after the driver's steps.
-ghost use Rattle.std.specs.Prelude.{◌≡◌, ◌<◌, ◌+◌, ◌++◌, ◌∷◌, [], ℕ, Bool, true, List, length, map, IfOk, IfErr, OnOk, All};
+ghost use Rattle.std.specs.Prelude.{◌≡◌, ◌<◌, ◌++◌, ◌∷◌, [], ℕ, Bool, true, List, length, IfOk, IfErr, OnOk, All};
 ghost use Rattle.cluster_core.specs.Setups.{rules_for};
-ghost use Rattle.cluster_node.specs.declared.outcomes.Outcome.{Outcome};
 ghost use Rattle.cluster_node.specs.declared.packets.Packet.{Packet};
 ghost use Rattle.thread_records.specs.Works.{IsOf};
 ghost use Rattle.thread_records.specs.Ends.{all_handled};
@@ -13,12 +12,11 @@ ghost use Rattle.thread_records.specs.Journals.{Tells, Drives, IsServed};
 ghost use Rattle.thread_records.specs.Paced.{AreUnmarked};
 ghost use Rattle.stats_book.specs.Counts.{Counted};
 ghost use Rattle.thread_roles.specs.Assigned.{asked_in};
-ghost use Rattle.thread_roles.specs.Counts.{AreRead, Counts, IsWork, served_from, with_lost};
+ghost use Rattle.thread_roles.specs.Counts.{AreRead, Counts, served_from, with_lost};
 ghost use Rattle.thread_roles.specs.Going.{Going, IsDriven, IsEnded};
 ghost use Rattle.thread_roles.specs.declared.fault.RunFault.TheVariants.{Foreign};
 ghost use Rattle.node_life.specs.Judged.{AreOfCluster, JudgesEnd, drained_at};
 
-use crate::rings::roomy;
 use cluster_core::Setup;
 use connection_table::ConnTable;
 use hash_laws::FlowHash;
@@ -28,21 +26,19 @@ use stats_book::Names;
 use std::alloc::{AllocError, Global};
 use std::sync::Wait;
 use thread_records::{Journal, WorkerRecord, are_of};
-use thread_roles::{
-    NodePlan, Progress, RunFault, Serving, ThreadShares, WorkerRun, fault_of, stops_at,
-};
+use thread_roles::{NodePlan, Progress, RunFault, Serving, fault_of, stops_at};
 
 // The number of each worker's first serving in the history, where so many events are before the servings.
-fn firsts_of<S: Scheme, T: ConnTable, B: Names>(
+fn firsts_of<S: Scheme, T: ConnTable>(
     alloc: Global,
     before: usize,
-    runs: &[WorkerRun<S, T, B>],
+    workers: &[WorkerRecord<S, T>],
 ) -> Result<Vec<usize>, AllocError> {
-    let mut firsts = Vec::with_capacity(alloc, runs.len())?;
+    let mut firsts = Vec::with_capacity(alloc, workers.len())?;
     let mut first = before;
-    for run in runs {
+    for worker in workers {
         firsts.push(first)?;
-        first = first.wrapping_add(run.record.handled().len());
+        first = first.wrapping_add(worker.handled().len());
     }
     Ok(firsts)
 }
@@ -63,41 +59,20 @@ fn number_of(firsts: &[usize], serving: Serving) -> Result<u32, AllocError> {
 pub(crate) fn numbered<S: Scheme, T: ConnTable, B: Names>(
     alloc: Global,
     driven: &Progress<S, B>,
-    runs: &[WorkerRun<S, T, B>],
+    workers: &[WorkerRecord<S, T>],
     sent: Vec<Serving>,
 ) -> Result<Vec<u32>, AllocError>
     ensures { IfOk result (λ v. length v.items ≡ length sent.items) }
 {
-    let firsts = firsts_of(alloc, driven.journal.events().len(), runs)?;
+    if sent.is_empty() {
+        return Ok(Vec::new(alloc));
+    }
+    let firsts = firsts_of(alloc, driven.journal.events().len(), workers)?;
     let mut numbers = Vec::with_capacity(alloc, sent.len())?;
     for serving in &sent {
         numbers.push(number_of(firsts.as_slice(), *serving)?)?;
     }
     Ok(numbers)
-}
-
-// What the workers counted is added to their driver's tally, and their records are kept.
-fn muster<S: Scheme, T: ConnTable, B: Names>(
-    alloc: Global,
-    tally: &mut ThreadShares<B>,
-    runs: Vec<WorkerRun<S, T, B>>,
-) -> Result<Vec<WorkerRecord<S, T>>, AllocError>
-    requires { All (λ w. IsWork w.record w.tally.lost w.tally.shares) runs.items }
-    ensures records { IfOk result (λ v. v.items ≡ map (λ w. w.record) runs.items) }
-    ensures parts { OnOk result (tally.new.shares.parts ≡ tally.old.shares.parts + length runs.items) }
-    ensures counts { (os : List Outcome) (n : ℕ) → Counts tally.old.lost tally.old.shares os →
-        IfOk result (λ v. Counts tally.new.lost tally.new.shares (os ++ served_from n 0 (all_handled v.items))) }
-{
-    let mut workers = roomy(alloc, runs.len());
-    for done in runs {
-        let WorkerRun {
-            record,
-            tally: counted,
-        } = done;
-        tally.merge(counted);
-        workers.push(record)?;
-    }
-    Ok(workers)
 }
 
 // Compares the versions that a life's workers used with the catalogue's, and by what they were prepared with the cluster's.
@@ -168,29 +143,28 @@ fn end<S: Scheme, H: FlowHash, T: ConnTable>(
 }
 
 /// A life that was driven ends as its commands say. The workers' records are compared with what was placed on them, and
-/// written after the driver's steps. What was lost at a stop is counted. Memory is reported first, then Foreign, then RingLost.
-/// What the records say decides between Ok, Foreign and RingLost (`judged`).
+/// written after the driver's steps. What was lost at a stop is counted. Foreign is reported before RingLost, and Memory where it
+/// is refused. What the records say decides between Ok, Foreign and RingLost (`judged`).
 pub(crate) fn end_driven<S: Scheme, H: FlowHash, T: ConnTable, G, B: Names, R: Wait>(
     rt: &R,
-    alloc: Global,
     plan: NodePlan<'_, S, H, G, B>,
     from: usize,
     driven: Progress<S, B>,
-    runs: Vec<WorkerRun<S, T, B>>,
+    workers: Vec<WorkerRecord<S, T>>,
 ) -> Result<Progress<S, B>, RunFault>
     requires driven { let asked = asked_in plan.assignment in
         let rules = rules_for (λ s z. S.pick s z) (λ h. H.plain h) asked.setup asked.catalogue in
         IsDriven rules asked.packets asked.commands asked.node asked.ring from driven.at driven.journal }
-    requires of { All (λ w. IsWork w.record w.tally.lost w.tally.shares) runs.items }
     requires some { 0 < driven.tally.shares.parts }
-    requires counts { AreRead plan.assignment.packets.now → Counts driven.tally.lost driven.tally.shares driven.journal.outcomes }
+    requires counts { AreRead plan.assignment.packets.now →
+        Counts driven.tally.lost driven.tally.shares (driven.journal.outcomes ++ served_from driven.journal.node 0 (all_handled workers.items)) }
     ensures ended { let asked = asked_in plan.entry.assignment in
         let rules = rules_for (λ s z. S.pick s z) (λ h. H.plain h) asked.setup asked.catalogue in
         IfOk result (λ d. IsEnded rules asked.packets asked.commands asked.node asked.ring from d.at d.journal) }
     ensures judged { let asked = asked_in plan.entry.assignment in
         let drained = drained_at asked.commands driven.at in
-        JudgesEnd (λ a b. S.eq a b) asked.setup asked.catalogue drained driven.journal (map (λ w. w.record) runs.items) result }
-    ensures parts { IfOk result (λ d. d.tally.shares.parts ≡ driven.tally.shares.parts + length runs.items) }
+        JudgesEnd (λ a b. S.eq a b) asked.setup asked.catalogue drained driven.journal workers.items result }
+    ensures parts { IfOk result (λ d. d.tally.shares.parts ≡ driven.tally.shares.parts) }
     ensures unmarked { AreUnmarked driven.journal.events → IfOk result (λ d. AreUnmarked d.journal.events) }
     ensures counts { AreRead plan.entry.assignment.packets.now → IfOk result (λ d. Counts d.tally.lost d.tally.shares d.journal.outcomes) }
 {
@@ -203,7 +177,6 @@ pub(crate) fn end_driven<S: Scheme, H: FlowHash, T: ConnTable, G, B: Names, R: W
     } = driven;
     let mut journal = journal;
     let mut tally = tally;
-    let workers = muster(alloc, &mut tally, runs)?;
     if at < plan.assignment.commands.len() {
         let drained = !stops_at(plan.assignment.commands, at);
         let lost = end_life(

@@ -23,11 +23,14 @@ pub(crate) struct Homes {
 fn offers_many<S: Scheme, H: FlowHash>(assignment: Assignment<'_, S, H>, from: usize) -> bool {
     let mut room = assignment.ring;
     for at in from..assignment.commands.len() {
-        match assignment.commands[at] {
+        let command = assignment.commands[at];
+        if ends_life(command) {
+            return false;
+        }
+        match command {
             Command::Offer(_) if room == 0 => return true,
             Command::Offer(_) => room -= 1,
-            Command::Publish(_) => (),
-            Command::Restart | Command::Stop => return false,
+            _ => (),
         }
     }
     false

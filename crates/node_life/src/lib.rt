@@ -1,9 +1,9 @@
-//! One life of a node on threads. It is laid out: each worker gets a part of the counts, and one on which packets may be placed a
-//! ring from the driver, a ring to the mux, and a place to read versions. Its threads are started, driven and joined. Then what its
-//! workers did is compared with what was placed on them, and written after the driver's steps.
+//! One life of a node on threads. It is laid out: each worker on which packets may be placed gets a part of the counts, a ring from
+//! the driver, a ring to the mux, and a place to read versions. Their threads are started, driven and joined. Then what all workers
+//! did is compared with what was placed on them, and written after the driver's steps.
 //!
-//! [`live`] does all of that. A worker on which no packet can be placed gets no thread and no ring, and in a life without packets
-//! the mux gets no thread either: to start one takes longer than all else in such a life.
+//! [`live`] does all of that. A worker on which no packet can be placed gets no thread, and a record of nothing. In a life without
+//! packets the mux gets no thread either: to start one takes longer than all else in such a life.
 #![tactic(auto)]
 
 mod begun;

@@ -1,15 +1,16 @@
 //! One life of a node: its threads are started, fed and joined.
-ghost use Rattle.std.specs.Prelude.{◌≡◌, ◌+◌, length, None, IfOk, IfErr, IfSome, IsErrOf, MatchResult, All};
+ghost use Rattle.std.specs.Prelude.{◌≡◌, ◌≤◌, ◌+◌, ◌++◌, ◌∷◌, [], ℕ, List, length, None, IfOk, IfErr, IfSome, IsOk, OnOk, MatchResult};
 ghost use Rattle.cluster_core.specs.Setups.{rules_for};
-ghost use Rattle.thread_roles.specs.Counts.{IsWork};
+ghost use Rattle.cluster_node.specs.declared.outcomes.Outcome.{Outcome};
+ghost use Rattle.thread_records.specs.Ends.{all_handled};
+ghost use Rattle.thread_roles.specs.Counts.{Counts, IsWork, served_from};
 ghost use Rattle.thread_roles.specs.Faults.{IsRefusal};
 ghost use Rattle.thread_roles.specs.Going.{IsLived};
-ghost use Rattle.thread_roles.specs.declared.fault.RunFault.TheVariants.{Memory};
 ghost use Rattle.node_life.specs.Told.{LifeTells};
 
 use crate::begun::Begun;
 use crate::ends::{end_driven, numbered};
-use crate::rings::{Kit, Laid, roomy};
+use crate::rings::{Laid, roomy};
 use connection_table::ConnTable;
 use hash_laws::FlowHash;
 use rtrb::Consumer;
@@ -19,9 +20,10 @@ use std::alloc::{AllocError, Global};
 use std::sync::Wait;
 use std::thread::{JoinHandle, PromisedHandle, Scope, Threads};
 use std::{fmt, thread};
+use thread_records::WorkerRecord;
 use thread_roles::{
-    CountsOwn, Desk, Gate, Inputs, NodePlan, Outfit, Output, Part, Progress, RunFault, Serving,
-    Stage, WorkerRun, drive, first_of, gather, idle_run, stops_at, work,
+    CountsOwn, Desk, Gate, Inputs, NodePlan, Outfit, Output, Progress, RunFault, Serving, Stage,
+    ThreadShares, WorkerRun, drive, first_of, gather, stops_at, work,
 };
 
 // What a worker's thread answers: what it did, or why it did not do all.
@@ -45,15 +47,15 @@ impl<S: Scheme, B: Names> fmt::Debug for LifeRun<S, B> {
     }
 }
 
-// A worker of a life: its thread, or its part of the counts where it needs none, since no packet can be placed on it. A thread
-// costs more than all else that a life without packets does.
+// A worker of a life on which packets may be placed: its number and its thread. Any other needs no thread, which would cost more
+// than all else that a life without packets does.
 #[derive(Drop)]
-enum Hand<S: Scheme, T: ConnTable, B: Names> {
-    Started(PromisedHandle<Answer<S, T, B>, CountsOwn>),
-    Spared(Part<B>),
+struct Hand<S: Scheme, T: ConnTable, B: Names> {
+    number: u16,
+    handle: PromisedHandle<Answer<S, T, B>, CountsOwn>,
 }
 
-// The workers of a life in the order of their numbers, and why not all were had.
+// The workers of a life that have threads, in the order of their numbers, and why not all were had.
 #[derive(Drop)]
 struct Started<S: Scheme, T: ConnTable, B: Names> {
     hands: Vec<Hand<S, T, B>>,
@@ -80,18 +82,19 @@ fn start_one<
 where
     S::Prepared: Send + Sync,
 {
+    let number = outfit.number;
     match scope.spawn_with(
         CountsOwn,
         move || -> Result<WorkerRun<S, T, B>, RunFault>
             ensures { MatchResult result (λ w. IsWork w.record w.tally.lost w.tally.shares) (λ fault. IsRefusal fault) }
         { work(rt, alloc, plan, outfit) },
     ) {
-        Ok(handle) => Some(Hand::Started(handle)),
+        Ok(handle) => Some(Hand { number, handle }),
         Err(_) => None,
     }
 }
 
-// Starts the workers on which packets may be placed, up to the first that can't be started. The others need no thread.
+// Starts the workers of a life that have outfits, up to the first that can't be started.
 fn start<
     's,
     'e: 's,
@@ -106,24 +109,20 @@ fn start<
     rt: &'e R,
     alloc: Global,
     plan: NodePlan<'e, S, H, G, B>,
-    kits: Vec<Kit<'e, S, B>>,
+    outfits: Vec<Outfit<'e, S, B>>,
 ) -> Started<S, T, B>
 where
     S::Prepared: Send + Sync,
-    ensures all { result.fault ≡ None → length result.hands.items ≡ length kits.entry.items }
+    ensures all { result.fault ≡ None → length result.hands.items ≡ length outfits.entry.items }
     ensures fault { IfSome result.fault (λ fault. IsRefusal fault) }
 {
-    let mut hands = roomy(alloc, kits.len());
-    for kit in kits {
+    let mut hands = roomy(alloc, outfits.len());
+    for outfit in outfits {
         if hands.reserve(1).is_err() {
             let fault = Some(RunFault::Memory);
             return Started { hands, fault };
         }
-        let hand = match kit {
-            Kit::Home(outfit) => start_one::<S, H, T, G, B, R>(scope, rt, alloc, plan, outfit),
-            Kit::Spared(part) => Some(Hand::Spared(part)),
-        };
-        match hand {
+        match start_one::<S, H, T, G, B, R>(scope, rt, alloc, plan, outfit) {
             Some(hand) => hands.push_reserved(hand),
             None => {
                 let fault = Some(RunFault::ThreadLost);
@@ -134,83 +133,143 @@ where
     Started { hands, fault: None }
 }
 
-// What the workers of a life did, as far as they were joined, and why one of them did not do all. Memory comes first.
-#[derive(Drop)]
-struct Joined<S: Scheme, T: ConnTable, B: Names> {
-    runs: Vec<WorkerRun<S, T, B>>,
-    fault: Option<RunFault>,
-}
-
-// What a worker did: its thread is joined. One that was spared has handled and counted nothing.
-fn end_one<S: Scheme, H: FlowHash, T: ConnTable, G: Gate, B: Names, R: Threads + Wait>(
-    rt: &R,
-    alloc: Global,
-    plan: NodePlan<'_, S, H, G, B>,
-    hand: Hand<S, T, B>,
-) -> Result<WorkerRun<S, T, B>, RunFault>
-    ensures { MatchResult result (λ w. IsWork w.record w.tally.lost w.tally.shares) (λ fault. IsRefusal fault) }
-{
-    match hand {
-        Hand::Started(handle) => handle.join(rt),
-        Hand::Spared(part) => match idle_run(alloc, plan, part) {
-            Ok(run) => Ok(run),
-            Err(_) => Err(RunFault::Memory),
-        },
-    }
-}
-
-// Ends a worker, and keeps what it did if it did it all and there is memory.
-fn join_one<S: Scheme, H: FlowHash, T: ConnTable, G: Gate, B: Names, R: Threads + Wait>(
-    rt: &R,
-    alloc: Global,
-    plan: NodePlan<'_, S, H, G, B>,
-    joined: &mut Joined<S, T, B>,
-    hand: Hand<S, T, B>,
-)
-    ensures of { All (λ w. IsWork w.record w.tally.lost w.tally.shares) joined.old.runs.items
-        → All (λ w. IsWork w.record w.tally.lost w.tally.shares) joined.new.runs.items }
-    ensures all { joined.new.fault ≡ None → (joined.old.fault ≡ None) × (length joined.new.runs.items ≡ length joined.old.runs.items + 1) }
-    ensures fault { IfSome joined.old.fault (λ fault. IsRefusal fault) → IfSome joined.new.fault (λ fault. IsRefusal fault) }
-{
-    match end_one(rt, alloc, plan, hand) {
-        Err(fault) => joined.fault = Some(first_of(joined.fault, fault)),
-        Ok(done) => match joined.runs.push(done) {
-            Ok(()) => (),
-            Err(_) => joined.fault = Some(RunFault::Memory),
-        },
-    }
-}
-
-// Ends all workers, whatever becomes of them. Memory comes before ThreadLost.
-fn join_all<S: Scheme, H: FlowHash, T: ConnTable, G: Gate, B: Names, R: Threads + Wait>(
-    rt: &R,
-    alloc: Global,
-    plan: NodePlan<'_, S, H, G, B>,
-    hands: Vec<Hand<S, T, B>>,
-) -> Result<Vec<WorkerRun<S, T, B>>, RunFault>
-    ensures of { IfOk result (λ v. All (λ w. IsWork w.record w.tally.lost w.tally.shares) v.items) }
-    ensures all { IfOk result (λ v. length v.items ≡ length hands.items) }
+// Adds what a worker counted to its driver's tally, and keeps its record.
+fn keep<S: Scheme, T: ConnTable, B: Names>(
+    tally: &mut ThreadShares<B>,
+    records: &mut Vec<WorkerRecord<S, T>>,
+    run: WorkerRun<S, T, B>,
+) -> Result<(), RunFault>
+    requires { IsWork run.record run.tally.lost run.tally.shares }
+    ensures all { OnOk result ((records.new.items ≡ records.old.items ++ run.record ∷ []) × (tally.new.shares.parts ≡ tally.old.shares.parts + 1)) }
+    ensures counts { (os : List Outcome) (n : ℕ) → Counts tally.old.lost tally.old.shares (os ++ served_from n 0 (all_handled records.old.items)) →
+        OnOk result (Counts tally.new.lost tally.new.shares (os ++ served_from n 0 (all_handled records.new.items))) }
     ensures fault { IfErr result (λ fault. IsRefusal fault) }
 {
-    let mut joined = Joined {
-        runs: roomy(alloc, hands.len()),
-        fault: None,
+    let WorkerRun {
+        record,
+        tally: counted,
+    } = run;
+    tally.merge(counted);
+    let Ok(()) = records.push(record) else {
+        return Err(RunFault::Memory);
     };
+    Ok(())
+}
+
+// Adds records of workers that have done nothing, up to so many records.
+fn fill<S: Scheme, H: FlowHash, T: ConnTable, G, B: Names>(
+    alloc: Global,
+    plan: NodePlan<'_, S, H, G, B>,
+    records: &mut Vec<WorkerRecord<S, T>>,
+    upto: u16,
+) -> Result<(), RunFault>
+    ensures all { OnOk result (upto ≤ length records.new.items) }
+    ensures counts { (n : ℕ) → OnOk result (served_from n 0 (all_handled records.new.items) ≡ served_from n 0 (all_handled records.old.items)) }
+    ensures fault { IfErr result (λ fault. IsRefusal fault) }
+{
+    for _ in records.len()..upto as usize {
+        let record = WorkerRecord::make(alloc, plan.assignment.setup)?;
+        let Ok(()) = records.push(record) else {
+            return Err(RunFault::Memory);
+        };
+    }
+    Ok(())
+}
+
+// Ends a worker, and keeps what it did and counted: its thread is joined. The workers before it that have no record had no thread, and
+// each gets a record of nothing.
+fn muster_one<S: Scheme, H: FlowHash, T: ConnTable, G: Gate, B: Names, R: Threads + Wait>(
+    rt: &R,
+    alloc: Global,
+    plan: NodePlan<'_, S, H, G, B>,
+    tally: &mut ThreadShares<B>,
+    records: &mut Vec<WorkerRecord<S, T>>,
+    hand: Hand<S, T, B>,
+) -> Result<(), RunFault>
+    ensures all { OnOk result (tally.new.shares.parts ≡ tally.old.shares.parts + 1) }
+    ensures counts { (os : List Outcome) (n : ℕ) → Counts tally.old.lost tally.old.shares (os ++ served_from n 0 (all_handled records.old.items)) →
+        OnOk result (Counts tally.new.lost tally.new.shares (os ++ served_from n 0 (all_handled records.new.items))) }
+    ensures fault { IfErr result (λ fault. IsRefusal fault) }
+{
+    let Hand { number, handle } = hand;
+    let filled = fill(alloc, plan, records, number);
+    let run = handle.join(rt);
+    filled?;
+    keep(tally, records, run?)
+}
+
+// Why not all workers did all, once one more ended. Memory comes before ThreadLost.
+fn first_told(fault: Option<RunFault>, ended: Result<(), RunFault>) -> Option<RunFault>
+    ensures none { result ≡ None → (fault ≡ None) × IsOk ended }
+    ensures refusal { IfSome fault (λ f. IsRefusal f) → IfErr ended (λ f. IsRefusal f) → IfSome result (λ f. IsRefusal f) }
+{
+    match ended {
+        Ok(()) => fault,
+        Err(other) => Some(first_of(fault, other)),
+    }
+}
+
+// Ends all workers, whatever becomes of them. What they counted is added to their driver's tally. There is a record for each worker of
+// the node, in the order of their numbers: of one that had no thread it is that of a worker that has done nothing.
+fn muster<S: Scheme, H: FlowHash, T: ConnTable, G: Gate, B: Names, R: Threads + Wait>(
+    rt: &R,
+    alloc: Global,
+    plan: NodePlan<'_, S, H, G, B>,
+    tally: &mut ThreadShares<B>,
+    hands: Vec<Hand<S, T, B>>,
+) -> Result<Vec<WorkerRecord<S, T>>, RunFault>
+    ensures all { IfOk result (λ v. plan.entry.assignment.setup.now.workers ≤ length v.items) }
+    ensures parts { OnOk result (tally.new.shares.parts ≡ tally.old.shares.parts + length hands.items) }
+    ensures counts { (os : List Outcome) (n : ℕ) → Counts tally.old.lost tally.old.shares os →
+        IfOk result (λ v. Counts tally.new.lost tally.new.shares (os ++ served_from n 0 (all_handled v.items))) }
+    ensures fault { IfErr result (λ fault. IsRefusal fault) }
+{
+    let workers = plan.assignment.setup.workers();
+    let mut records = roomy(alloc, workers as usize);
+    let mut told = None;
     for hand in hands {
-        join_one(rt, alloc, plan, &mut joined, hand);
+        let ended = muster_one(rt, alloc, plan, tally, &mut records, hand);
+        told = first_told(told, ended);
     }
-    let Joined { runs, fault } = joined;
-    match fault {
+    let filled = fill(alloc, plan, &mut records, workers);
+    match first_told(told, filled) {
         Some(fault) => Err(fault),
-        None => Ok(runs),
+        None => Ok(records),
     }
+}
+
+// Ends a worker of a life that fails: its thread is joined, and what it did is dropped.
+fn end_one<S: Scheme, T: ConnTable, B: Names, R: Threads + Wait>(
+    rt: &R,
+    hand: Hand<S, T, B>,
+) -> Result<(), RunFault>
+    ensures { IfErr result (λ fault. IsRefusal fault) }
+{
+    let Hand { number, handle } = hand;
+    let _ = number;
+    match handle.join(rt) {
+        Ok(_) => Ok(()),
+        Err(fault) => Err(fault),
+    }
+}
+
+// Ends all workers of a life that fails, whatever becomes of them.
+fn end_all<S: Scheme, T: ConnTable, B: Names, R: Threads + Wait>(
+    rt: &R,
+    hands: Vec<Hand<S, T, B>>,
+) -> Option<RunFault>
+    ensures { IfSome result (λ fault. IsRefusal fault) }
+{
+    let mut told = None;
+    for hand in hands {
+        told = first_told(told, end_one(rt, hand));
+    }
+    told
 }
 
 // Not all threads of a life could be started: those that were end, with nothing offered.
-fn give_up<S: Scheme, H: FlowHash, T: ConnTable, G: Gate, B: Names, R: Threads + Wait>(
+fn give_up<S: Scheme, T: ConnTable, B: Names, R: Threads + Wait>(
     rt: &R,
-    alloc: Global,
-    plan: NodePlan<'_, S, H, G, B>,
     inputs: &mut Inputs,
     hands: Vec<Hand<S, T, B>>,
     fault: RunFault,
@@ -218,10 +277,7 @@ fn give_up<S: Scheme, H: FlowHash, T: ConnTable, G: Gate, B: Names, R: Threads +
     ensures { IsRefusal fault → IsRefusal result }
 {
     inputs.close(rt);
-    match join_all(rt, alloc, plan, hands) {
-        Err(RunFault::Memory) => RunFault::Memory,
-        _ => fault,
-    }
+    first_of(end_all(rt, hands), fault)
 }
 
 // The workers get no more to serve. Where the life ends with a stop they are told to halt, and else each ring gets a closing
@@ -239,18 +295,6 @@ fn end_feed<S: Scheme, H: FlowHash, G: Gate, B: Names, R: Wait, W: Wait + Drop>(
             plan.gate.stopping(plan.assignment.node);
         }
         _ => inputs.close(rt),
-    }
-}
-
-// What is reported where a worker did not do all: that a driver was refused memory comes first.
-fn told_first<P: Drop>(driven: Result<P, RunFault>, fault: RunFault) -> RunFault
-    ensures memory { IsErrOf driven Memory → result ≡ Memory }
-    ensures fault { (IsErrOf driven Memory → ⊥) → result ≡ fault }
-    ensures refusal { IsRefusal fault → IsRefusal result }
-{
-    match driven {
-        Err(RunFault::Memory) => RunFault::Memory,
-        _ => fault,
     }
 }
 
@@ -307,17 +351,24 @@ fn drive_crew<
     let from = progress.at;
     let driven = drive(rt, alloc, plan, progress, &mut desk, &mut inputs);
     end_feed(rt, plan, &driven, &mut desk, &mut inputs);
-    let runs = join_all(rt, alloc, plan, hands);
-    let sent = end_mux(rt, alloc, mux);
-    drop(inputs);
-    let sent = sent?;
-    match runs {
-        Err(fault) => Err(told_first(driven, fault)),
-        Ok(runs) => {
-            let driven = driven?;
-            let sent = numbered(alloc, &driven, runs.as_slice(), sent)?;
-            let progress = end_driven(rt, alloc, plan, from, driven, runs)?;
+    match driven {
+        Ok(driven) => {
+            let mut driven = driven;
+            let workers = muster(rt, alloc, plan, &mut driven.tally, hands);
+            let gathered = end_mux(rt, alloc, mux);
+            drop(inputs);
+            let gathered = gathered?;
+            let workers = workers?;
+            let sent = numbered(alloc, &driven, workers.as_slice(), gathered)?;
+            let progress = end_driven(rt, plan, from, driven, workers)?;
             Ok(LifeRun { progress, sent })
+        }
+        Err(fault) => {
+            let ended = end_all(rt, hands);
+            let gathered = end_mux(rt, alloc, mux);
+            drop(inputs);
+            gathered?;
+            Err(first_of(ended, fault))
         }
     }
 }
@@ -360,23 +411,23 @@ fn start_crew<
 ) -> Result<Crew<S, T, B>, RunFault>
 where
     S::Prepared: Send + Sync,
-    ensures all { IfOk result (λ crew. length crew.hands.items ≡ length laid.entry.kits.items) }
+    ensures all { IfOk result (λ crew. length crew.hands.items ≡ length laid.entry.outfits.items) }
     ensures fault { IfErr result (λ fault. IsRefusal fault) }
 {
     let Laid {
-        kits,
+        outfits,
         inputs,
         outputs,
     } = laid;
     let mut inputs = inputs;
-    let started: Started<S, T, B> = start(scope, rt, alloc, plan, kits);
+    let started: Started<S, T, B> = start(scope, rt, alloc, plan, outfits);
     let Started { hands, fault } = started;
     if let Some(fault) = fault {
-        return Err(give_up(rt, alloc, plan, &mut inputs, hands, fault));
+        return Err(give_up(rt, &mut inputs, hands, fault));
     }
     let Some(mux) = start_mux(scope, rt, alloc, outputs) else {
         let fault = RunFault::ThreadLost;
-        return Err(give_up(rt, alloc, plan, &mut inputs, hands, fault));
+        return Err(give_up(rt, &mut inputs, hands, fault));
     };
     Ok(Crew { hands, mux, inputs })
 }
@@ -403,7 +454,7 @@ where
     S::Prepared: Send + Sync,
     ensures { let life = life.entry in
         let rules = rules_for (λ s z. S.pick s z) (λ h. H.plain h) life.asked.setup life.asked.catalogue in
-        let parts = life.parts + length laid.entry.kits.items in
+        let parts = life.parts + length laid.entry.outfits.items in
         MatchResult result
         (λ r. IsLived rules life.asked life.start parts r.progress.at r.progress.journal r.progress.tally.lost r.progress.tally.shares)
         (λ fault. LifeTells (λ a b. S.eq a b) rules life.asked life.start fault) }
@@ -438,7 +489,7 @@ where
     S::Prepared: Send + Sync,
     ensures { let life = life.entry in
         let rules = rules_for (λ s z. S.pick s z) (λ h. H.plain h) life.asked.setup life.asked.catalogue in
-        let parts = life.parts + length laid.entry.kits.items in
+        let parts = life.parts + length laid.entry.outfits.items in
         MatchResult result
         (λ r. IsLived rules life.asked life.start parts r.progress.at r.progress.journal r.progress.tally.lost r.progress.tally.shares)
         (λ fault. LifeTells (λ a b. S.eq a b) rules life.asked life.start fault) }
@@ -449,7 +500,7 @@ where
         move |scope| -> Result<LifeRun<S, B>, RunFault>
             ensures { let life = life.entry in
                 let rules = rules_for (λ s z. S.pick s z) (λ h. H.plain h) life.asked.setup life.asked.catalogue in
-                let parts = life.parts + length laid.entry.kits.items in
+                let parts = life.parts + length laid.entry.outfits.items in
                 MatchResult result
                 (λ r. IsLived rules life.asked life.start parts r.progress.at r.progress.journal r.progress.tally.lost r.progress.tally.shares)
                 (λ fault. LifeTells (λ a b. S.eq a b) rules life.asked life.start fault) }

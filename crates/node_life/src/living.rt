@@ -49,8 +49,8 @@ fn staged<'e, S: Scheme, R: Wait>(
     Ok(stage)
 }
 
-/// One life: a board, a part of the counts for each worker, rings for those on which packets may be placed, and the threads. Nothing
-/// is answered before all threads are joined.
+/// One life: a board, a part of the counts and rings for each worker on which packets may be placed, and the threads. Nothing is
+/// answered before all threads are joined.
 pub fn live<
     'e,
     S: Scheme + Send + Sync + 'e,

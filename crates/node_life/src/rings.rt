@@ -1,5 +1,5 @@
-//! What a life of a node is laid out with, before its threads start: for each worker a part of the counts, and for one on which
-//! packets may be placed a ring from the driver, a ring to the mux, and a place to read versions.
+//! What a life of a node is laid out with, before its threads start: for each worker on which packets may be placed a part of the
+//! counts, a ring from the driver, a ring to the mux, and a place to read versions.
 ghost use Rattle.std.specs.Prelude.{◌≡◌, [], ◌<◌, ◌+◌, length, IfOk, IfErr, OnOk, All};
 ghost use Rattle.thread_roles.specs.Faults.{IsRefusal};
 ghost use Rattle.thread_roles.specs.declared.fault.RunFault.TheVariants.{ThreadLost};
@@ -25,23 +25,14 @@ pub(crate) fn roomy<T>(alloc: Global, count: usize) -> Vec<T>
     }
 }
 
-/// What a life has for a worker.
-#[derive(Drop)]
-pub(crate) enum Kit<'a, S: Scheme, B: Names> {
-    /// All that it needs to serve packets.
-    Home(Outfit<'a, S, B>),
-    /// Its part of the counts, since no packet can be placed on it.
-    Spared(Part<B>),
-}
-
 /// What a life is laid out with: what its workers own, the driver's ends of the rings and the mux's ends.
 #[derive(Drop)]
 pub(crate) struct Laid<'a, S: Scheme, B: Names> {
-    /// One for each worker.
-    pub kits: Vec<Kit<'a, S, B>>,
-    /// The driver's ends, at the numbers of the workers that have rings.
+    /// One for each worker on which packets may be placed, in the order of their numbers.
+    pub outfits: Vec<Outfit<'a, S, B>>,
+    /// The driver's ends, at the numbers of these workers.
     pub inputs: Inputs,
-    /// The mux's ends, one for each of these workers.
+    /// The mux's ends, one for each of them.
     pub outputs: Vec<Consumer<Output>>,
 }
 
@@ -101,24 +92,15 @@ pub(crate) fn post_all<'a, S: Scheme, R: Wait + Drop>(
 impl<'a, S: Scheme, B: Names> Laid<'a, S, B> {
     // Nothing yet for any of so many workers.
     fn empty(alloc: Global, workers: usize) -> Laid<'a, S, B>
-        ensures { length result.kits.items ≡ 0 }
+        ensures { length result.outfits.items ≡ 0 }
     {
         Laid {
-            kits: roomy(alloc, workers),
+            outfits: roomy(alloc, workers),
             inputs: Inputs {
                 rings: roomy(alloc, workers),
             },
             outputs: Vec::new(alloc),
         }
-    }
-
-    // One worker more, which needs no ring.
-    fn spare(&mut self, part: Part<B>) -> Result<(), AllocError>
-        ensures { OnOk result (length self.new.kits.items ≡ length self.old.kits.items + 1) }
-    {
-        self.inputs.rings.push(None)?;
-        self.kits.push(Kit::Spared(part))?;
-        Ok(())
     }
 
     // One worker more, with its rings, each of so many places.
@@ -130,24 +112,25 @@ impl<'a, S: Scheme, B: Names> Laid<'a, S, B> {
         part: Part<B>,
         number: u16,
     ) -> Result<(), AllocError>
-        ensures { OnOk result (length self.new.kits.items ≡ length self.old.kits.items + 1) }
+        ensures { OnOk result (length self.new.outfits.items ≡ length self.old.outfits.items + 1) }
     {
         let (input, ring) = RingBuffer::new(alloc, places as usize)?;
         self.inputs.rings.push(Some(input))?;
         let (out, output) = RingBuffer::new(alloc, places as usize)?;
         self.outputs.push(output)?;
-        self.kits.push(Kit::Home(Outfit {
+        self.outfits.push(Outfit {
             post,
             ring,
             out,
             part,
             number,
-        }))?;
+        })?;
         Ok(())
     }
 }
 
-/// What the workers of a life own, with a part of the counts for each. One that has a post gets rings, each of so many places.
+/// What the workers of a life own. One that has a post gets a part of the counts and rings, each of so many places, and any other
+/// nothing.
 pub(crate) fn lay<'a, S: Scheme, B: Names>(
     alloc: Global,
     posts: Vec<Option<Post<'a, S>>>,
@@ -155,17 +138,16 @@ pub(crate) fn lay<'a, S: Scheme, B: Names>(
     tally: &mut ThreadShares<B>,
 ) -> Result<Laid<'a, S, B>, AllocError>
     requires { length posts.items < tally.old.shares.parts }
-    ensures kits { IfOk result (λ l. length l.kits.items ≡ length posts.entry.items) }
-    ensures parts { OnOk result (tally.new.shares.parts + length posts.entry.items ≡ tally.old.shares.parts) }
+    ensures parts { IfOk result (λ l. tally.new.shares.parts + length l.outfits.items ≡ tally.old.shares.parts) }
+    ensures some { OnOk result (0 < tally.new.shares.parts) }
     ensures same { OnOk result ((tally.new.shares ≡ record tally.old.shares { parts = tally.new.shares.parts }) × (tally.new.lost ≡ tally.old.lost)) }
 {
     let mut laid = Laid::empty(alloc, posts.len());
     let mut number = 0u16;
     for post in posts {
-        let part = tally.part();
         match post {
-            Some(post) => laid.add(alloc, post, places, part, number)?,
-            None => laid.spare(part)?,
+            Some(post) => laid.add(alloc, post, places, tally.part(), number)?,
+            None => laid.inputs.rings.push(None)?,
         }
         number = number.wrapping_add(1);
     }

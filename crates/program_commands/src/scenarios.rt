@@ -287,12 +287,6 @@ fn wanted_of(matches: &ArgMatches<'_>) -> Wanted {
     }
 }
 
-// Whether nothing but a summary is wanted beside the report. Then nothing is written before the run's end.
-fn is_summary_alone(wanted: Wanted) -> bool {
-    let is_more = wanted.list || wanted.splits || wanted.places || wanted.backends || wanted.nodes;
-    wanted.summary && !is_more
-}
-
 // The command `simulate`, where flows that begin again are other connections.
 fn run_turned(rt: &HostRuntime, matches: &ArgMatches<'_>, idle: Option<u64>) -> u8 {
     let only = matches.get_one::<u16>("node");
@@ -321,7 +315,8 @@ fn run_turned(rt: &HostRuntime, matches: &ArgMatches<'_>, idle: Option<u64>) -> 
     )
 }
 
-// The command `simulate`, where each flow is one connection.
+// The command `simulate`, where each flow is one connection. A summary alone is written when the run has ended, so that no page is
+// needed for it.
 fn run_plain(rt: &HostRuntime, matches: &ArgMatches<'_>) -> u8 {
     let only = matches.get_one::<u16>("node");
     let wanted = wanted_of(matches);
@@ -334,7 +329,7 @@ fn run_plain(rt: &HostRuntime, matches: &ArgMatches<'_>) -> u8 {
         |key, text, input, output, report| {
             let alloc = rt.alloc();
             match only {
-                None if is_summary_alone(wanted) => {
+                None if wanted.is_summary() => {
                     let mut report = report;
                     simulate_keyed(alloc, key, text, input, output, &mut report, wanted)
                 }

@@ -67,7 +67,7 @@ impl Wanted {
     }
 
     /// Whether it is the report with a summary, and nothing else.
-    pub(crate) fn is_summary(self) -> bool
+    pub fn is_summary(self) -> bool
         ensures { result ≡ is_summary self }
     {
         self.summary && !(self.list || self.splits || self.places || self.backends || self.nodes)

@@ -7,7 +7,7 @@ use Rattle.thread_records.specs.declared.command.Command.{Command}
 use Rattle.thread_records.specs.Losses.{ending, as_written, drained_lives, losses, KeepDrained}
 use Rattle.thread_roles.proofs.Counting.{counts_told}
 use Rattle.thread_roles.proofs.Goes.{obeyed_more}
-use Rattle.node_life.proofs.Judging.{judged_whole, judged_exit, judged_memory, stops_past}
+use Rattle.node_life.proofs.Judging.{judged_whole, judged_exit, stops_past}
 use Rattle.node_life.proofs.ends.end_driven.Goals as goal
 
 pub returns-then-at-plan : goal.returns-then-at-plan
@@ -23,12 +23,11 @@ returns-then-at-plan g c =
         next = λ h. obeyed_more rules c.args.plan.assignment.packets.now c.args.plan.assignment.commands.now c.args.plan.assignment.node c.args.plan.assignment.ring c.args.driven.at (ending (not c.stops_at-drained.result)) _ before (had.ends before ∙ ap (λ (b : Bool). Some (ending (not b))) (sym stopped)) (c.in_ok-lost.ensures.going c.args.plan.assignment.packets.now (take c.args.driven.at c.args.plan.assignment.commands.now) c.args.plan.assignment.node c.args.plan.assignment.ring had.going);
         last = λ h. absurd (omega (arith, before, h));
       };
-      judged = judged_whole (λ x y. g.S.PartialEq.eq x y) c.args.plan.assignment.setup.now c.args.plan.assignment.catalogue.now _ _ c.args.driven.journal _ _ _ (ap not c.stops_at-drained.ensures) refl c.in_ok-workers.ensures.records c.in_ok-lost.ensures.judged;
-      parts = c.lose.ensures.parts ∙ c.in_ok-workers.ensures.parts;
+      judged = judged_whole (λ x y. g.S.PartialEq.eq x y) c.args.plan.assignment.setup.now c.args.plan.assignment.catalogue.now _ _ c.args.driven.journal _ (ap not c.stops_at-drained.ensures) c.in_ok-lost.ensures.judged;
+      parts = c.lose.ensures.parts;
       unmarked = c.in_ok-lost.ensures.unmarked;
-      counts = λ read. counts_told c.muster.new.tally.lost c.lose.new.self.lost c.muster.new.tally.shares c.lose.new.self.shares c.in_ok-lost.lost c.end_life.new.journal.outcomes c.lose.ensures.lost
-          (c.in_ok-lost.ensures.counts c.muster.new.tally.lost c.muster.new.tally.shares
-          (c.in_ok-workers.ensures.counts c.args.driven.journal.outcomes c.args.driven.journal.node (c.requires.counts read)));
+      counts = λ read. counts_told c.args.driven.tally.lost c.lose.new.self.lost c.args.driven.tally.shares c.lose.new.self.shares c.in_ok-lost.lost c.end_life.new.journal.outcomes c.lose.ensures.lost
+          (c.in_ok-lost.ensures.counts c.args.driven.tally.lost c.args.driven.tally.shares (c.requires.counts read));
     }
 
 pub returns : goal.returns
@@ -52,20 +51,16 @@ returns g c =
           ring = served.ring ∙ had.going.ring;
         };
       };
-      judged = judged_whole (λ x y. g.S.PartialEq.eq x y) c.args.plan.assignment.setup.now c.args.plan.assignment.catalogue.now _ _ c.args.driven.journal _ _ _ (sym (stops_past c.args.plan.assignment.commands.now c.args.driven.at all)) refl c.in_ok-workers.ensures.records c.in_ok-end.ensures.judged;
-      parts = c.in_ok-workers.ensures.parts;
+      judged = judged_whole (λ x y. g.S.PartialEq.eq x y) c.args.plan.assignment.setup.now c.args.plan.assignment.catalogue.now _ _ c.args.driven.journal _ (sym (stops_past c.args.plan.assignment.commands.now c.args.driven.at all)) c.in_ok-end.ensures.judged;
+      parts = refl;
       unmarked = c.in_ok-end.ensures.unmarked;
-      counts = λ read. c.in_ok-end.ensures.counts c.muster.new.tally.lost c.muster.new.tally.shares
-          (c.in_ok-workers.ensures.counts c.args.driven.journal.outcomes c.args.driven.journal.node (c.requires.counts read));
+      counts = λ read. c.in_ok-end.ensures.counts c.args.driven.tally.lost c.args.driven.tally.shares (c.requires.counts read);
     }
 
-pub returns-in_err-workers-clause-judged : goal.returns-in_err-workers-clause-judged
-returns-in_err-workers-clause-judged g c = judged_memory (λ x y. g.S.PartialEq.eq x y) c.args.plan.assignment.setup.now c.args.plan.assignment.catalogue.now c.from_residual.result _ c.args.driven.journal _ c.from_residual.ensures.1
-
 pub returns-in_err-lost-clause-judged : goal.returns-in_err-lost-clause-judged
-returns-in_err-lost-clause-judged g c = judged_exit (λ x y. g.S.PartialEq.eq x y) c.args.plan.assignment.setup.now c.args.plan.assignment.catalogue.now c.from_residual-in_err-lost.result c.in_err-lost.field-0.0 _ _ c.args.driven.journal _ _ _ c.from_residual-in_err-lost.ensures.1 (ap not c.stops_at-drained.ensures) refl c.in_ok-workers.ensures.records c.in_err-lost.ensures.judged
+returns-in_err-lost-clause-judged g c = judged_exit (λ x y. g.S.PartialEq.eq x y) c.args.plan.assignment.setup.now c.args.plan.assignment.catalogue.now c.from_residual.result c.in_err-lost.field-0.0 _ _ c.args.driven.journal _ c.from_residual.ensures.1 (ap not c.stops_at-drained.ensures) c.in_err-lost.ensures.judged
 
 pub returns-in_err-end-clause-judged : goal.returns-in_err-end-clause-judged
 returns-in_err-end-clause-judged g c =
     let past : length c.args.plan.assignment.commands.now ≤ c.args.driven.at = omega (arith, c.if-at-plan.false) in
-    judged_exit (λ x y. g.S.PartialEq.eq x y) c.args.plan.assignment.setup.now c.args.plan.assignment.catalogue.now c.from_residual-in_err-end.result c.in_err-end.field-0.0 _ _ c.args.driven.journal _ _ _ c.from_residual-in_err-end.ensures.1 (sym (stops_past c.args.plan.assignment.commands.now c.args.driven.at past)) refl c.in_ok-workers.ensures.records c.in_err-end.ensures.judged
+    judged_exit (λ x y. g.S.PartialEq.eq x y) c.args.plan.assignment.setup.now c.args.plan.assignment.catalogue.now c.from_residual-in_err-end.result c.in_err-end.field-0.0 _ _ c.args.driven.journal _ c.from_residual-in_err-end.ensures.1 (sym (stops_past c.args.plan.assignment.commands.now c.args.driven.at past)) c.in_err-end.ensures.judged

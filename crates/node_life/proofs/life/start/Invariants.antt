@@ -1,5 +1,5 @@
 use Rattle.std.proofs.Common.{◌≡◌, ◌+◌, length}
 use Rattle.node_life.proofs.life.start.Given as goal
 
-abbrev pub invariant-loop-kit : goal.invariant-loop-kit
-invariant-loop-kit g l = length l.hands.items + length l.kit-iterator.rest.items ≡ length l.fn.kits.items
+abbrev pub invariant-loop-outfit : goal.invariant-loop-outfit
+invariant-loop-outfit g l = length l.hands.items + length l.outfit-iterator.rest.items ≡ length l.fn.outfits.items

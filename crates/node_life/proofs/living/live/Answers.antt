@@ -37,7 +37,7 @@ returns g c =
     let plan = c.parts-progress.result.0 in
     let p = c.parts-progress.result.1 in
     let asked = asked_in plan.assignment in
-    let all : c.lay.new.tally.shares.parts + length c.in_ok-laid.laid.kits.items ≡ p.tally.shares.parts = omega (arith, c.in_ok-laid.ensures.parts, c.in_ok-laid.ensures.kits) in
+    let all : c.lay.new.tally.shares.parts + length c.in_ok-laid.laid.outfits.items ≡ p.tally.shares.parts = c.in_ok-laid.ensures.parts in
     subst (λ (v : LifeView _ _). MatchResult c.run_life.result (λ r. IsLived (rules_for (λ s z. g.S.Scheme.pick s z) (λ h. g.H.FlowHash.plain h) v.asked.setup v.asked.catalogue) v.asked v.start v.parts r.progress.at r.progress.journal r.progress.tally.lost r.progress.tally.shares) (λ f. LifeTells (λ x y. g.S.PartialEq.eq x y) (rules_for (λ s z. g.S.Scheme.pick s z) (λ h. g.H.FlowHash.plain h) v.asked.setup v.asked.catalogue) v.asked v.start f)) (sym c.parts-progress.ensures.view)
     (subst (λ (n : ℕ). MatchResult c.run_life.result (λ r. IsLived (rules_for (λ s z. g.S.Scheme.pick s z) (λ h. g.H.FlowHash.plain h) asked.setup asked.catalogue) asked p.at n r.progress.at r.progress.journal r.progress.tally.lost r.progress.tally.shares) (λ f. LifeTells (λ x y. g.S.PartialEq.eq x y) (rules_for (λ s z. g.S.Scheme.pick s z) (λ h. g.H.FlowHash.plain h) asked.setup asked.catalogue) asked p.at f)) all
-    (subst (λ (v : LifeView _ _). MatchResult c.run_life.result (λ r. IsLived (rules_for (λ s z. g.S.Scheme.pick s z) (λ h. g.H.FlowHash.plain h) v.asked.setup v.asked.catalogue) v.asked v.start (v.parts + length c.in_ok-laid.laid.kits.items) r.progress.at r.progress.journal r.progress.tally.lost r.progress.tally.shares) (λ f. LifeTells (λ x y. g.S.PartialEq.eq x y) (rules_for (λ s z. g.S.Scheme.pick s z) (λ h. g.H.FlowHash.plain h) v.asked.setup v.asked.catalogue) v.asked v.start f)) (c.new-life.ensures ∙ c.new-2.ensures) c.run_life.ensures))
+    (subst (λ (v : LifeView _ _). MatchResult c.run_life.result (λ r. IsLived (rules_for (λ s z. g.S.Scheme.pick s z) (λ h. g.H.FlowHash.plain h) v.asked.setup v.asked.catalogue) v.asked v.start (v.parts + length c.in_ok-laid.laid.outfits.items) r.progress.at r.progress.journal r.progress.tally.lost r.progress.tally.shares) (λ f. LifeTells (λ x y. g.S.PartialEq.eq x y) (rules_for (λ s z. g.S.Scheme.pick s z) (λ h. g.H.FlowHash.plain h) v.asked.setup v.asked.catalogue) v.asked v.start f)) (c.new-life.ensures ∙ c.new-2.ensures) c.run_life.ensures))
