@@ -1,5 +1,5 @@
 //! A list of what a worker handled.
-ghost use Rattle.std.specs.Prelude.{◌≡◌, ◌<◌, ◌^◌, ◌==◌, [], ◌∷◌, ◌++◌, length, reverse, Some, OnOk, IsTrue, MatchOption, option_map, option_copied, unwrap_or};
+ghost use Rattle.std.specs.Prelude.{◌≡◌, ◌<◌, ◌^◌, ◌==◌, [], ◌∷◌, ◌++◌, length, reverse, Some, IsOk, OnOk, IsTrue, MatchOption, option_map, option_copied, unwrap_or};
 ghost use Rattle.std.specs.Prelude.{slice_get, vec_len, vec_capacity};
 ghost use Rattle.forwarder.specs.declared.Choice.TheVariants.{Forward, NoBackend};
 ghost use Rattle.handled_list.specs.Meant.{told, unstored_of, opened_choice, opened, Tells};
@@ -196,6 +196,7 @@ impl HandledList {
     pub fn reserve(&mut self) -> Result<(), AllocError>
         ensures items { self.new.items ≡ self.old.items }
         ensures ok { OnOk result (IsTrue self.new.ready) }
+        ensures succeeds { IsTrue self.old.ready → IsOk result }
     {
         if u32::try_from(self.strangers.len()).is_err() {
             return Err(AllocError);

@@ -1,6 +1,6 @@
 -- Faults that are passed on, and what they tell of a life.
 use Rattle.std.proofs.Common.{◌≡◌, ℕ, Bool, List, sym, subst}
-use Rattle.std.specs.Prelude.{Result, Ok, Err, IfErr, IsOk, OnOk, IsErrAnd, MatchResult}
+use Rattle.std.specs.Prelude.{Result, Ok, Err, IsOk, OnOk, IsErrAnd, MatchResult}
 use Rattle.std.proofs.lemmas.Bool.{false≢true}
 use Rattle.cluster_node.specs.Rules.{Rules}
 use Rattle.thread_records.specs.Journals.{JournalView}
@@ -13,10 +13,6 @@ use Rattle.node_life.specs.Judged.{JudgesEnd, drained_at}
 use Rattle.node_life.specs.Told.{LifeTells}
 
 -- a fault that is passed on
-pub err_exit : {T E : Type 0} (P : E → Type 0) (r : Result T E) (e : E) → IsErrAnd r (λ f. f ≡ e) → P e → IfErr r P
-err_exit P (Ok x) e is p = absurd is
-err_exit P (Err f) e is p = subst P (sym is) p
-
 pub match_exit : {T E : Type 0} (Q : T → Type 0) (P : E → Type 0) (r : Result T E) (e : E) → IsErrAnd r (λ f. f ≡ e) → P e → MatchResult r Q P
 match_exit Q P (Ok x) e is p = absurd is
 match_exit Q P (Err f) e is p = subst P (sym is) p

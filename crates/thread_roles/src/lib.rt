@@ -27,4 +27,4 @@ pub use post::{Desk, Post};
 pub use promise::{CountsOwn, WorkerRun};
 pub use ring::{Inputs, Message, Output, PacedInputs, Serving};
 pub use tally::{Part, ThreadShares};
-pub use working::{Outfit, idle_run, work};
+pub use working::{Outfit, work};

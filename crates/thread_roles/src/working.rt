@@ -84,9 +84,8 @@ fn send_on<R: Wait>(rt: &R, out: &mut Producer<Output>, worker: u16, nth: u64, s
     }
 }
 
-/// The run of a worker that has handled and counted nothing. Each worker begins with it, and one on which no packet can be placed ends
-/// with it.
-pub fn idle_run<S: Scheme, H: FlowHash, T: ConnTable, G, B: Names>(
+// The run of a worker that has handled and counted nothing. Each worker begins with it.
+fn idle_run<S: Scheme, H: FlowHash, T: ConnTable, G, B: Names>(
     alloc: Global,
     plan: NodePlan<'_, S, H, G, B>,
     part: Part<B>,
