@@ -209,6 +209,18 @@ def test_readme():
     check("README's page", "changed their server" in page and "What the plan moves" in page, page[:300])
 
 
+def test_readme_paced():
+    """README's paced run prints what is shown: each packet is sent, as the model says of a run in which no ring is full."""
+    _, _, found = rows.example("rolling", "rolling")
+    sent = [line for line in found.report().splitlines(keepends=True) if line.startswith("forwarded ")]
+    ((words, lines),) = [one for one in rows.commands_of((TOP / "README.md").read_text()) if "--pace" in one[0]]
+    check("README's paced run is the model's", lines == "".join([*sent, "audit agrees\n"]), f"{lines} {sent}")
+    with tempfile.TemporaryDirectory() as folder:
+        command = " ".join([PROGRAM, *words[1:]]).replace("sent.pcap", f"{folder}/sent.pcap")
+        done = subprocess.run(command, shell=True, capture_output=True, cwd=TOP, timeout=600, check=False)
+    check("README's paced run", (done.returncode, done.stdout.decode(), done.stderr) == (0, lines, b""), done)
+
+
 # tables of a scenario's services
 
 TWO = """format = 1

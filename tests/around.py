@@ -197,7 +197,7 @@ def test_manual():
         check("the man page", did(["mandoc", "-T", "lint", page]) == (0, b"", b""))
     words = 'source share/bash-completion/completions/maglev; COMP_WORDS=(maglev %s); COMP_CWORD=%d; _maglev; echo "${COMPREPLY[*]}"'
     syn = "--splits --syn --syn-after --summary"
-    behind = [("-", 1, "-v --verbose --help"), ("simulate --s", 2, syn), ("-v simulate --s", 3, syn), ("--verbose simulate --s", 3, syn)]
+    behind = [("-", 1, "-v --verbose --help --version"), ("simulate --s", 2, syn), ("-v simulate --s", 3, syn), ("--verbose simulate --s", 3, syn)]
     behind += [("-v si", 2, "simulate"), ("-v h", 2, ""), ("-v table --hash s", 4, "sha256 sum"), ("-v simulate --cut = ", 5, "pad")]
     for typed, at, expected in [*behind, ("si", 1, "simulate"), ("table --hash s", 3, "sha256 sum"), ("pick --no", 2, "--no-check"), ("table --size =", 3, "7 13 251 1021 8191 65537"), ("pick --hash = sh", 4, "sha256")]:
         answer = did(["bash", "-c", words % (typed, at)], cwd=TOP)

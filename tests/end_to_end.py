@@ -1270,23 +1270,30 @@ def were(count):
 # What is said of refused events.
 REFUSED = "{} event{} refused, as an install of a version that isn't newer, or isn't there: simulate --list shows which"
 
+# What is said of records that came to no balancer.
+MISSED = [("unrouted", "{} packet{} came when no balancer was live"), ("left", "{} record{} at the end of INPUT: no step reads them")]
+
 
 def counted(text):
     """The numbers of a report's lines, or a summary's, by the words before them."""
     return collections.defaultdict(int, {line.rsplit(" ", 1)[0]: int(line.rsplit(" ", 1)[1]) for line in text.splitlines() if line[-1].isdigit()})
 
 
+def told_of(count, words):
+    """A line for each of these counts that isn't 0."""
+    return [what.format(count[word], "s" * (count[word] != 1)) for word, what in words if count[word]]
+
+
 def judged(text, parts):
     """What `--fail-above` says where so many parts per million of the connections may change their server, line by line, and the
     status, by a report with its summary."""
     count = counted(text)
-    unserved = sum(count[f"drop {cause}"] for cause in ("NoService", "NoBackend", "NoVersion", "RingsFull", "LostAtRestart"))
+    unsent = count["received"] - count["forwarded"]
     is_above = count["changed"] * 1_000_000 > parts * count["connections"]
-    lines = []
-    if unserved:
-        lines.append(f"of {count['received']} packets {unserved} got no server: --fail-above doesn't count them")
-    if count["refused"]:
-        lines.append(REFUSED.format(count["refused"], "s" * (count["refused"] != 1)))
+    lines = told_of(count, MISSED)
+    if unsent:
+        lines.append(f"of {count['received']} packets {unsent} got no server: --fail-above doesn't count them")
+    lines += told_of(count, [("refused", REFUSED)])
     if is_above:
         lines.append(f"{count['changed']} of {count['connections']} connections changed their server: --fail-above wants fewer")
     if not count["connections"]:
@@ -1303,14 +1310,7 @@ def advised(text):
     told = [most] if most else []
     told += [one for cause in ("RingsFull", "Truncated") for one in causes if one[0] == cause and one != most]
     lines = [f"of {count['received']} packets {dropped} {were(dropped)} dropped as {cause}: {HELPS[cause]}" for cause, dropped in told]
-    for word, what in [
-        ("unrouted", "{} packet{} came when no balancer was live"),
-        ("left", "{} record{} at the end of INPUT: no step reads them"),
-        ("refused", REFUSED),
-    ]:
-        if count[word]:
-            lines.append(what.format(count[word], "s" * (count[word] != 1)))
-    return lines
+    return lines + told_of(count, [*MISSED, ("refused", REFUSED)])
 
 
 def warns(name, steps, expected, words=("simulate", "-v", "s.toml", "in.pcap", "out.pcap")):

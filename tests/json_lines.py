@@ -13,7 +13,7 @@ import end_to_end as rows
 import format_three
 import model
 import objects
-from end_to_end import ALL, B_DOWN, HEAD, TCP, capture, run, scenario, simulates, with_files
+from end_to_end import ALL, B_DOWN, HEAD, TCP, capture, packet, run, scenario, simulates, with_files
 from harness import check, run_tests
 
 FIRST, COUNT = (int(word) for word in sys.argv[1:3]) if len(sys.argv) > 2 else (0, 300)
@@ -23,6 +23,9 @@ def read_back(text):
     """The objects of a text, each line by Python's reader."""
     return [json.loads(line) for line in text.splitlines()]
 
+
+# Packets whose header checksums are wrong, behind one that is whole.
+UNREAD = capture("x") + 2 * rows.record(packet("y")[:10] + b"\xff\xff" + packet("y")[12:])
 
 # The numbers behind each kind of event in a plain line.
 BEHIND = {"install": ["node", "version"], "arrive": ["node", "record"], "serve": ["node", "worker", "version"], "restart": ["node"]}
@@ -292,8 +295,8 @@ def test_shares():
 
 
 def test_what_a_share_leaves_out():
-    """`--fail-above` tells what connections don't count: packets that no server got, events that were refused, a run without
-    connections. Where `-v` tells the refused events it tells them once."""
+    """`--fail-above` tells what connections don't count: packets that no server got, records that came to no balancer, events that
+    were refused, a run without connections. Where `-v` tells some of these it tells each once."""
     gone = (ALL, B_DOWN, [])
     for name, steps, versions, letters in [
         ("no version", ["take 1"], (ALL,), "x"),
@@ -303,9 +306,14 @@ def test_what_a_share_leaves_out():
         ("one that isn't newer", ["live 0", "install 0 2", "install 0 1", "install 0 2", "take 2"], (ALL, B_DOWN), "xy"),
         ("all workers full", ["live 0", "install 0 1", "full 0 0", "take 2"], (ALL,), "xy"),
         ("what waited at a restart", ["live 0", "install 0 1", "hold 0", "take 2", "restart 0", "take 1"], (ALL,), "xyz"),
+        ("what no balancer got", ["live 0", "install 0 1", "take 1", "live", "take 2"], (ALL,), "xyz"),
+        ("what no step reads", ["live 0", "install 0 1", "take 1"], (ALL,), "xyz"),
+        ("what waits at the end", ["live 0", "install 0 1", "take 1", "hold 0", "take 1"], (ALL,), "xy"),
+        ("what can't be read", ["live 0", "install 0 1", "take 3"], (ALL,), UNREAD),
         ("both, and a change", ["live 0", "install 0 1", "take 1", "restart 0", "install 0 1", "install 0 2", "take 2"], (ALL, B_DOWN), "xxw"),
     ]:
-        text, data = scenario(steps, versions), capture(letters)
+        text = scenario(steps, versions)
+        data = letters if isinstance(letters, bytes) else capture(letters)
         run_of = model.Run(text, data)
         lines, status = rows.judged(run_of.report() + run_of.summary(), 0)
         answer = rows.simulated(text, data, ["--fail-above", "0"])

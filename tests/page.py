@@ -337,6 +337,20 @@ def test_bins():
     page, _ = page_of("an even stream", '{"type":"maglev","version":1,"command":"simulate"}\n' + lines)
     check("an even stream: at most", "1,500, at most 20 in 0.002 s" in page, page[-600:])
     check("an even stream: its bars", page.count("<title>20</title>") == 75 and page.count("<rect") == 75, page.count("<rect"))
+    # over a day bins are many seconds wide, and the line begins with the first packet all the same
+    lines = "".join(event % (number, number, 1_700_000_015 + 9 * number, 250_000) for number in range(10_000))
+    page, _ = page_of("a day", '{"type":"maglev","version":1,"command":"simulate"}\n' + lines)
+    check("a day: it begins with the first packet", "0 s is 1700000015.250 s of" in page and "10,000, at most " in page, page[-900:])
+
+
+def test_a_summary_alone():
+    """The summary tells the reasons where no line of a change does."""
+    _, _, found = rolling()
+    said = dict(objects.lines_of(found.summary()))
+    page, _ = page_of("a summary alone", objects.text_of(objects.simulated(found, "--summary")))
+    for cause in model.CHANGES:
+        count = int(said[f"changes {cause}"])
+        check(f"a summary alone: {cause}", (f"<td>{cause}</td>" in page) == (count > 0) and (not count or f'<td class="count">{count:,}</td>' in page), count)
 
 
 def test_a_million_splits():
@@ -410,6 +424,9 @@ def test_what_cannot_be_read_or_written():
             done = subprocess.run([sys.executable, TOOL, "in.jsonl", out], cwd=folder, capture_output=True, text=True, timeout=60, check=False)
             said = (done.returncode, done.stderr, (Path(folder) / "in.jsonl").read_text())
             check(f"{out}: IN is no OUT", said == (1, "report.py: OUT is the file of IN\n", text), said)
+        done = subprocess.run([sys.executable, TOOL, "none.jsonl", "in.jsonl"], cwd=folder, capture_output=True, text=True, timeout=60, check=False)
+        said = (done.returncode, done.stderr, (Path(folder) / "in.jsonl").read_text())
+        check("no IN", said == (1, "report.py: [Errno 2] No such file or directory: 'none.jsonl'\n", text), said)
     page, _ = page_of("a whole pair", '{"type":"maglev","version":1,"command":"\\ud83d\\ude00"}\n')
     check("a whole pair: it is shown", "\U0001f600" in page, page[-80:])
 

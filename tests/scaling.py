@@ -239,7 +239,7 @@ def test_page():
 
 def test_sqlite():
     """The page's commands of SQLite's own program print what the queries find; nodes.sql makes the table alike."""
-    view = re.search(r"CREATE VIEW events AS SELECT line->>.*", page_has("sqlite3")).group()
+    view = re.search(r"CREATE TABLE events AS SELECT line->>.*", page_has("sqlite3")).group()
     comment = re.sub(r"(?m)^--\s*", "", (SHARE / "nodes.sql").read_text())
     check("nodes.sql has the page's view", view in " ".join(comment.split()), view)
     if not shutil.which("sqlite3"):

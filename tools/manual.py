@@ -114,7 +114,7 @@ def man_page(whole, commands):
             page += [".TP", f".B {roff(word)}", roff(text)]
         for line in one.after:
             page += after_help(line) if line != files else []
-    page += section("SCENARIO", "Keys", "A scenario is a TOML document with these keys. Each is required but ring, check and idle, and those of format 3 alone. Sections that are named are those of docs/FORMATS.md.")
+    page += section("SCENARIO", "Keys", "A scenario is a TOML document with these keys. Each is required but ring, check and idle, those of format 3 alone, and what a version or a service takes over from its base. Sections that are named are those of docs/FORMATS.md.")
     page += section("STEPS", "Steps", "Each step is a text. N is a node and W a worker, counted from 0; V is the number of a version.")
     page += [".SH EXIT STATUS", ".TP", "0", "Done.", ".TP", "1", "A fault, which a line on standard error names."]
     page += [".TP", "2", "A bad command line."]
@@ -136,7 +136,7 @@ def bash_words(whole, commands):
     lines = ["# Completions of maglev for bash.", "_maglev() {", '    local word=${COMP_WORDS[COMP_CWORD]} before=${COMP_WORDS[COMP_CWORD-1]} at=1']
     lines.append('    if [ "$word" = = ]; then word=; elif [ "$before" = = ]; then before=${COMP_WORDS[COMP_CWORD-2]}; fi')
     lines.append('    if [ "$COMP_CWORD" -eq 1 ]; then')
-    lines.append(f'        mapfile -t COMPREPLY < <(compgen -W "{names} help {" ".join(VERBOSE)} --help" -- "$word")')
+    lines.append(f'        mapfile -t COMPREPLY < <(compgen -W "{names} help {" ".join(VERBOSE)} --help --version" -- "$word")')
     lines += ["        return", "    fi", f'    case ${{COMP_WORDS[1]}} in {" | ".join(VERBOSE)}) at=2 ;; esac']
     lines.append('    if [ "$COMP_CWORD" -eq "$at" ]; then')
     lines.append(f'        mapfile -t COMPREPLY < <(compgen -W "{names}" -- "$word")')
@@ -163,7 +163,8 @@ def zsh_words(whole, commands):
     """Completions for zsh."""
     lines = ["#compdef maglev", "# Completions of maglev for zsh.", "_maglev() {", "    local -a commands options", "    commands=("]
     lines += ["        " + quoted(f"{word}:{text}") for word, text in whole.parts["Commands:"]]
-    lines += ["    )", "    options=(" + " ".join(quoted(f"{word}:{VERBOSE_TEXT}") for word in VERBOSE) + ")"]
+    options = [*(f"{word}:{VERBOSE_TEXT}" for word in VERBOSE), "--help:Print help", "--version:Print version"]
+    lines += ["    )", f"    options=({' '.join(map(quoted, options))})"]
     lines.append(f'    if (( CURRENT > 2 )) && [[ $words[2] = ({"|".join(VERBOSE)}) ]]; then')
     lines += ["        words[2]=()", "        (( CURRENT-- ))", "        options=()", "    fi"]
     lines += ["    if (( CURRENT == 2 )); then", "        _describe command commands", "        _describe -o option options", "        return", "    fi", "    case $words[2] in"]
@@ -185,6 +186,7 @@ def fish_words(whole, commands):
     for word, text in whole.parts["Commands:"]:
         lines.append(f"complete -c maglev -n __fish_use_subcommand -a {word} -d {quoted(text)}")
     lines.append(f"complete -c maglev -n __fish_use_subcommand -s v -l verbose -d {quoted(VERBOSE_TEXT)}")
+    lines += [f"complete -c maglev -n __fish_use_subcommand -l {word} -d 'Print {word}'" for word in ("help", "version")]
     for one in commands:
         seen = f"-n '__fish_seen_subcommand_from {one.name}'"
         if one.takes_files():

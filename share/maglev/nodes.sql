@@ -7,7 +7,7 @@
 --   .separator "\037" "\n"
 --   CREATE TABLE lines (line);
 --   .import part-0.jsonl lines
---   CREATE VIEW events AS SELECT line->>'kind' AS kind, line->>'outcome' AS outcome, line->>'node' AS node,
+--   CREATE TABLE events AS SELECT line->>'kind' AS kind, line->>'outcome' AS outcome, line->>'node' AS node,
 --     line->>'record' AS record, line->>'worker' AS worker, line->>'version' AS version, line->>'flow' AS flow,
 --     line->>'backend' AS backend, line->>'address' AS address, line->>'chosen' AS chosen, line->>'bytes' AS bytes
 --     FROM lines WHERE line->>'type' = 'event';

@@ -23,7 +23,7 @@ MOST_BINS, WIDTH, HEIGHT = 120, 960, 150
 NOT_TOLD = (ValueError, KeyError, TypeError, AttributeError, OverflowError, RecursionError)
 WHY = {
     "down": "its server left",
-    "drained": "its server left after it had drained",
+    "drained": "its server left, and a version before drains it",
     "node": "it came to another balancer",
     "restart": "the balancer was restarted",
     "worker": "it came to another worker",
@@ -60,9 +60,10 @@ class Bins:
     """Counts over time. Bins get wider as time goes on, so that there are never many."""
 
     def __init__(self):
-        self.width, self.counts = 1_000, collections.Counter()
+        self.width, self.counts, self.first = 1_000, collections.Counter(), None
 
     def note(self, micros):
+        self.first = micros if self.first is None else min(self.first, micros)
         self.counts[micros // self.width] += 1
         if len(self.counts) > 64 * MOST_BINS:
             self.widen(self.width * 2)
@@ -75,14 +76,15 @@ class Bins:
         self.width, self.counts = width, wider
 
     def ends(self):
-        return (min(self.counts) * self.width, (max(self.counts) + 1) * self.width) if self.counts else (0, 0)
+        return (self.first, (max(self.counts) + 1) * self.width) if self.counts else (0, 0)
 
     def over(self, first, last):
         """The counts of up to MOST_BINS bins between two times, and their width: so many whole bins of those here."""
         wide = self.width * max(1, -(-(last - first) // (self.width * MOST_BINS)))
         found = [0] * max(1, -(-(last - first) // wide))
         for place, count in self.counts.items():
-            found[(place * self.width - first) // wide] += count
+            # a bin may begin before the first time that stands in it
+            found[max(0, (place * self.width - first) // wide)] += count
         return found, wide
 
 
@@ -404,10 +406,12 @@ def shares(told):
 
 
 def reasons(told):
-    if not told.split_count:
+    """Why connections changed their server, by their lines, and else by the summary."""
+    why = told.why or collections.Counter({word: count for word, count in told.whole.get("summary", {}).get("why", {}).items() if count})
+    if not why:
         return ""
-    most = max(told.why.values())
-    rows = [row([why, WHY.get(why, ""), bar(count, most, "two"), count]) for why, count in told.why.most_common()]
+    most = max(why.values())
+    rows = [row([word, WHY.get(word, ""), bar(count, most, "two"), count]) for word, count in why.most_common()]
     heads = ["reason", "what happened", ("bar", ""), count_head("changes")]
     return f"<h3>Why connections changed their server</h3>{table(heads, rows)}"
 
@@ -541,7 +545,7 @@ def main(words):
     if len(words) != 2 or words[0] in ("-h", "--help"):
         print(__doc__.strip())
         return 0 if words[:1] in (["-h"], ["--help"]) else 2
-    if "-" not in words and os.path.exists(words[1]) and os.path.samefile(*words):
+    if "-" not in words and all(map(os.path.exists, words)) and os.path.samefile(*words):
         sys.exit("report.py: OUT is the file of IN")
     try:
         with opened(words[0], "r", sys.stdin) as lines:

@@ -11,7 +11,7 @@ pub struct ChangeCounts {
 }
 
 impl ChangeCounts {
-    /// Whether a greater part of the connections changed their server than this share. It never is where there was none.
+    /// Whether a greater part of the connections changed their server than this share. It isn't where none changed.
     pub fn is_above(self, share: Share) -> bool
         ensures { result ≡ nat_lt (share * self.connections) (self.changed * 1000000) }
     {

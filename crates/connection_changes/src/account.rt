@@ -2,8 +2,8 @@
 use crate::causes::Change;
 use run_report::Split;
 
-/// How many connections there were, how many of them changed their server, and the splits and the changes, in the order of their
-/// later sends.
+/// How many connections there were, and how many of them changed their server. The splits and the changes are in the order of
+/// their later sends.
 #[derive(Clone, Copy, Debug)]
 pub struct Account<'a> {
     pub connections: usize,

@@ -21,7 +21,7 @@ use std::fmt;
 
 /// What is known of a cluster's events so far: the splits with where their packets were sent, and the flows that were split.
 /// Changes are in the order of their later sends. The book's memory grows with the flows and the changes, and by 8 bytes with
-/// each record of the capture, and not with the events. Flows are hashed by a key. It answers what was settled.
+/// each record of the capture. Events don't add to it. Flows are hashed by a key. It answers what was settled.
 #[derive(Drop)]
 pub struct ChangeBook {
     alloc: Global,

@@ -8,8 +8,8 @@ use crate::sites::Site;
 use pool_versions::Catalogue;
 use run_report::{Split, SplitCause, cause_where, does_anybody_drain};
 
-/// Two packets of one flow that were sent to different servers, with no packet of that flow sent between them, and where
-/// each was sent.
+/// Two packets of one flow that were sent to different servers, and where each was sent. No packet of that flow was sent
+/// between them.
 #[derive(Clone, Copy, Debug, PartialEq, Eq)]
 pub struct Change {
     pub split: Split,

@@ -4,9 +4,9 @@ ghost use Rattle.connection_changes.specs.Sites.{time_told, arrived_by, begun_by
 
 use cluster_node::{Event, Outcome, Packet};
 
-/// Where a packet was sent: its number in the capture, its time, the node and the worker that sent it, how many lives the
-/// node had before, and the worker's clock. Times and clocks are in microseconds. A clock is the greatest time of the packets
-/// that the worker served in this life, this one among them.
+/// Where a packet was sent: its number in the capture, its time, and the node and the worker that sent it. `life` is how many
+/// lives the node had before, and `clock` the worker's clock. Both times are in microseconds. A clock is the greatest time of
+/// the packets that the worker served in this life, this one among them.
 #[derive(Clone, Copy, Debug, PartialEq, Eq)]
 pub struct Site {
     pub packet: u32,

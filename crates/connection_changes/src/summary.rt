@@ -29,7 +29,7 @@ const CAUSES: [ChangeCause; 7] = [
     ChangeCause::Evicted,
 ];
 
-/// Why each connection changed its server.
+/// Why each connection changed its server. `idle` is the tables' limit, in microseconds.
 pub fn causes_of(
     alloc: Global,
     catalogue: &Catalogue,
@@ -80,8 +80,8 @@ fn push_count(text: &mut String, name: &str, count: usize) -> Result<(), AllocEr
     write!(text, "{name} {count}\n")
 }
 
-/// Puts after a text how many connections there were, how many of them changed their server, how often they did, and how often
-/// for each cause. The causes' counts add up to that of the changes, by `causes_add_up`. `idle` is the limit in microseconds
+/// Puts after a text how many connections there were and how many of them changed their server. Behind these it puts how often,
+/// and how often for each cause. The causes' counts add up to that of the changes, by `causes_add_up`. `idle` is the limit in microseconds
 /// after which an entry of a connection table no longer counts.
 pub fn push_told_summary(
     alloc: Global,

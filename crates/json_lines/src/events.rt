@@ -186,7 +186,7 @@ fn push_event(
     )
 }
 
-/// Puts the line of an event after a text, with its number, the packet that it names where it is an arrival, and its outcome.
+/// Puts the line of an event after a text, with its number and its outcome. An arrival's line has the packet that it names.
 pub fn push_json_event(
     text: &mut String,
     number: u64,

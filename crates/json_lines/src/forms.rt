@@ -53,8 +53,8 @@ impl Form {
         }
     }
 
-    /// Puts the line of an event after a text, with its number, the packet that it names where it is an arrival, and its
-    /// outcome.
+    /// Puts the line of an event after a text, with its number and its outcome. An object of an arrival has the packet that
+    /// it names.
     pub fn push_event(
         self,
         text: &mut String,

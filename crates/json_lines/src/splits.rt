@@ -34,7 +34,7 @@ impl fmt::Display for SendMembers {
     }
 }
 
-/// A flow's slot and why it was split, with the flow before them, printed as the members of a split that come before its sends.
+/// A flow's slot and why it was split, with the flow before them. They are printed as a split's members before its sends.
 #[derive(Clone, Copy)]
 pub(crate) struct SplitMembers(pub(crate) Split, pub(crate) u32, pub(crate) SplitCause);
 

@@ -86,8 +86,8 @@ fn push_line(
     push_end(text, causes)
 }
 
-/// Puts after a text how many connections there were, how many of them changed their server, how often they did, and how often
-/// for each cause. `idle` is the limit in microseconds after which an entry of a connection table no longer counts.
+/// Puts after a text how many connections there were and how many of them changed their server. Behind these it puts how often,
+/// and for which cause. `idle` is the limit in microseconds after which an entry of a connection table no longer counts.
 pub fn push_json_summary(
     alloc: Global,
     text: &mut String,

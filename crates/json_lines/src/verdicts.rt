@@ -25,8 +25,8 @@ impl fmt::Display for ChoiceMembers {
     }
 }
 
-/// A flow's slot, how each of two packets got its backend, and whether the first one's server left after it had drained,
-/// printed as the members that a split has behind its verdict.
+/// A flow's slot, how each of two packets got its backend, and whether a version drained the first one's server before it left.
+/// They are printed as the members that a split has behind its verdict.
 #[derive(Clone, Copy)]
 struct ChoicesMembers(u32, ChoiceMembers, ChoiceMembers, bool);
 

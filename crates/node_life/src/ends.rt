@@ -1,4 +1,4 @@
-//! How a life of a node ends, once its threads are joined: what its workers did is compared with what was placed on them, and
+//! How a life of a node ends, once its threads are joined. What its workers did is compared with what was placed on them, and
 //! written after the driver's steps.
 ghost use Rattle.std.specs.Prelude.{◌≡◌, ◌<◌, ◌++◌, ◌∷◌, [], ℕ, Bool, true, List, length, IfOk, IfErr, OnOk, All};
 ghost use Rattle.cluster_core.specs.Setups.{rules_for};

@@ -12,7 +12,7 @@ use thread_records::Command;
 use thread_roles::Assignment;
 
 /// The workers on which a life may place packets: the homes of the flows that it offers. Where it offers more packets than a ring
-/// has places they are all workers, since a packet whose home is full goes to another one. A worker that is none of them gets no
+/// has places they are all workers. For a packet whose home is full goes to another one. A worker that is none of them gets no
 /// ring and no thread. No promise of a run rests on them: the records are compared whatever they are.
 #[derive(Clone, Copy, Debug, PartialEq, Eq)]
 pub(crate) struct Homes {

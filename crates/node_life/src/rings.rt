@@ -1,5 +1,5 @@
-//! What a life of a node is laid out with, before its threads start: for each worker on which packets may be placed a part of the
-//! counts, a ring from the driver, a ring to the mux, and a place to read versions.
+//! What a life of a node is laid out with, before its threads start. Each worker on which packets may be placed gets a part of
+//! the counts, a ring from the driver, a ring to the mux, and a place to read versions.
 ghost use Rattle.std.specs.Prelude.{◌≡◌, [], ◌<◌, ◌+◌, length, IfOk, IfErr, OnOk, All};
 ghost use Rattle.thread_roles.specs.Faults.{IsRefusal};
 ghost use Rattle.thread_roles.specs.declared.fault.RunFault.TheVariants.{ThreadLost};
@@ -64,7 +64,7 @@ fn post_of<'a, S: Scheme, R: Wait + Drop>(
     }
 }
 
-/// What the workers see of their driver's versions: for each seat of the board a place to read, where packets may be placed on its
+/// What the workers see of their driver's versions. Each seat of the board has a place to read, where packets may be placed on its
 /// worker. The only faults are Memory, and ThreadLost where a worker has no place to read.
 pub(crate) fn post_all<'a, S: Scheme, R: Wait + Drop>(
     alloc: Global,

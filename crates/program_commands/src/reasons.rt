@@ -12,8 +12,8 @@ use shown_text::shown;
 use std::alloc::Global;
 use std::io;
 
-/// A fault of a command, where in its scenario it is, what the system said where it refused a file, and the first bytes of
-/// INPUT.
+/// A fault of a command, and where in its scenario it is. Beside it stand what the system said of a file that it refused, and
+/// INPUT's first bytes.
 #[derive(Clone, Copy)]
 pub(crate) struct Trouble {
     pub(crate) fault: CliFault,

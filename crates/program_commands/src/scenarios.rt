@@ -207,7 +207,7 @@ struct Ending<'x> {
 }
 
 /// A command that plays a scenario from one capture to another, as the command line says. `play` plays it, with the tables'
-/// key, the scenario's text, the input, the output, and what keeps the report, or prints it as it comes where it `is_streamed`.
+/// key, the scenario's text, the input and the output. Its last argument keeps the report, or prints it where it `is_streamed`.
 /// Where it is shown how far the reading is, `at_end` is what the line says at its end.
 pub fn between_captures<'x, F>(
     rt: &'x HostRuntime,

@@ -8,7 +8,7 @@ use read_progress::AtEnd;
 use scenario::Played;
 use std::io::Write;
 
-/// Whether flows that begin again are other connections, and after which time without a segment a SYN begins one again too.
+/// Whether flows that begin again are other connections, and after how many microseconds without a segment a SYN begins one too.
 #[derive(Clone, Copy)]
 pub enum Starting {
     Never,

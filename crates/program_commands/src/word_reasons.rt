@@ -1,5 +1,5 @@
-//! What `--verbose` says after a fault of a command that needs no scenario: which word is wrong, what was found there and what
-//! was expected.
+//! What `--verbose` says after a fault of a command that needs no scenario. That is which word is wrong, what was found there
+//! and what was expected.
 use backend_names::Name;
 use command_faults::CliFault;
 use maglev_texts::{weighed_member, weighed_name};

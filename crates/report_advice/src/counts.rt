@@ -17,36 +17,17 @@ pub(crate) struct Counts<'a> {
     pub(crate) refused: u64,
     pub(crate) rings_full: u64,
     pub(crate) truncated: u64,
-    /// Packets with a flow that no server got.
-    pub(crate) unserved: u64,
     /// The cause for which most packets were dropped.
     pub(crate) most: Drops<'a>,
 }
 
-// What a dropped packet lacked.
-#[derive(Clone, Copy)]
-enum Loss {
-    // It wasn't read as a datagram with a flow.
-    Unread,
-    // It has a flow, and no server got it.
-    Unserved,
-}
-
-// What packets lacked that are dropped for a cause. None where the word is none.
-fn loss_of(word: &str) -> Option<Loss> {
+// Whether packets are dropped for a cause of this name.
+fn is_cause(word: &str) -> bool {
     match word {
-        "NotIpv4"
-        | "Truncated"
-        | "BadHeader"
-        | "BadChecksum"
-        | "Fragment"
-        | "NotTcpUdp"
-        | "BadTransport"
-        | "TooLarge" => Some(Loss::Unread),
-        "NoService" | "NoBackend" | "NoVersion" | "RingsFull" | "LostAtRestart" => Some(
-            Loss::Unserved,
-        ),
-        _ => None,
+        "NotIpv4" | "Truncated" | "BadHeader" | "BadChecksum" | "Fragment" | "NotTcpUdp" => true,
+        "BadTransport" | "TooLarge" | "NoService" | "NoBackend" | "NoVersion" => true,
+        "RingsFull" | "LostAtRestart" => true,
+        _ => false,
     }
 }
 
@@ -60,7 +41,6 @@ impl<'a> Counts<'a> {
             refused: 0,
             rings_full: 0,
             truncated: 0,
-            unserved: 0,
             most: Drops {
                 cause: "",
                 count: 0,
@@ -68,15 +48,12 @@ impl<'a> Counts<'a> {
         }
     }
 
-    // A cause, with what its packets lacked, and how many were dropped for it.
-    fn drop(&mut self, cause: &'a str, loss: Loss, count: u64) {
+    // A cause, and how many packets were dropped for it.
+    fn drop(&mut self, cause: &'a str, count: u64) {
         match cause {
             "RingsFull" => self.rings_full = count,
             "Truncated" => self.truncated = count,
             _ => {}
-        }
-        if let Loss::Unserved = loss {
-            self.unserved = self.unserved.saturating_add(count);
         }
         if count > self.most.count {
             self.most = Drops { cause, count };
@@ -92,10 +69,15 @@ impl<'a> Counts<'a> {
             "unrouted" => self.unrouted = count,
             "left" => self.left = count,
             "refused" => self.refused = count,
-            _ => if let Some(loss) = loss_of(word) {
-                self.drop(word, loss, count);
+            _ => if is_cause(word) {
+                self.drop(word, count);
             },
         }
+    }
+
+    /// How many packets came to a balancer and weren't sent.
+    pub(crate) fn unsent(&self) -> u64 {
+        self.received.saturating_sub(self.forwarded)
     }
 
     // Whether fewer than one packet in ten was sent.

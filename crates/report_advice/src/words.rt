@@ -140,23 +140,20 @@ fn advise_refused(
 }
 
 // Of packets that a count of connections leaves out, since no server got them.
-fn advise_unserved(
+fn advise_unsent(
     alloc: Global,
     counts: &Counts<'_>,
     advice: &mut Vec<String>,
 ) -> Result<(), AllocError> {
-    let Counts {
-        received,
-        unserved,
-        ..
-    } = *counts;
-    if unserved == 0 {
+    let unsent = counts.unsent();
+    if unsent == 0 {
         return Ok(());
     }
+    let received = counts.received;
     tell(
         advice,
         format!(in alloc;
-            "of {received} packets {unserved} got no server: --fail-above doesn't count them"
+            "of {received} packets {unsent} got no server: --fail-above doesn't count them"
         )?,
     )
 }
@@ -182,11 +179,13 @@ pub fn advice_of(
     let mut advice = Vec::new(alloc);
     if asked.all {
         advise_drops(alloc, &counts, head, &mut advice)?;
+    }
+    if asked.all || asked.judged {
         advise_unrouted(alloc, &counts, &mut advice)?;
         advise_left(alloc, &counts, &mut advice)?;
     }
     if asked.judged {
-        advise_unserved(alloc, &counts, &mut advice)?;
+        advise_unsent(alloc, &counts, &mut advice)?;
     }
     advise_refused(alloc, &counts, &mut advice)?;
     Ok(advice)

@@ -1,5 +1,5 @@
-//! The records of a capture as a run on threads keeps them: read to the capture's end, parsed on several threads, and written
-//! again, wrapped, as what the nodes sent.
+//! The records of a capture as a run on threads keeps them. They are read to the capture's end, parsed on several threads, and
+//! written again, wrapped, as what the nodes sent.
 #![tactic(auto)]
 
 mod blocks;

@@ -79,8 +79,8 @@ pub fn simulate<I: Source, O: Sink, R: Sink>(
     }
 }
 
-/// The same, with a key for the hash of the connection tables. Where the changes are kept, which are with places or with a
-/// summary, it also answers how many connections there were, and how many of them changed their server.
+/// The same, with a key for the hash of the connection tables. Where changes are kept, with places or for a summary, it
+/// answers how many connections there were and how many of them changed their server.
 pub fn simulate_keyed<I: Source, O: Sink, R: Sink>(
     alloc: Global,
     key: TableKey,

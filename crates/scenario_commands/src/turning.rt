@@ -42,8 +42,8 @@ fn ordinals_by<I: Source>(
 }
 
 /// The ordinal of each record's connection in a capture over which a scenario is to be played: how often its flow has begun again.
-/// It begins again with a TCP SYN without ACK after FIN or RST, and after so many microseconds without a segment, where they are
-/// given. The checksums of IPv4 headers are tested where the scenario has them tested.
+/// It begins again with a TCP SYN without ACK after FIN or RST. Where microseconds are given, it also does so after that long
+/// without a segment. The checksums of IPv4 headers are tested where the scenario has them tested.
 ///
 /// The device isn't called before the scenario was accepted, which may have no step `stop`.
 pub fn ordinals_in<I: Source>(

@@ -23,11 +23,15 @@ pub(crate) struct SeenSends {
     pub(crate) changes: Vec<Change>,
 }
 
-// Where the entry of each send's flow may be, so that their groups are on the way at the same time.
-fn guess_all(last: &Lasts, key: TableKey, sends: &[Sent], places: &mut [u32; AT_ONCE]) {
+// The hash of each send's flow.
+fn hash_all(key: TableKey, sends: &[Sent], places: &mut [u32; AT_ONCE]) {
     for (place, sent) in places.iter_mut().zip(sends.iter()) {
         *place = key.hash_of(&sent.flow);
     }
+}
+
+// Where the entry of each send's flow may be, by the flows' hashes, so that their groups are on the way at the same time.
+fn guess_all(last: &Lasts, sends: &[Sent], places: &mut [u32; AT_ONCE]) {
     for (place, _) in places.iter_mut().zip(sends.iter()) {
         *place = last.guess(*place);
     }
@@ -114,7 +118,8 @@ impl SeenSends {
         ensures { (done : List Sent) → AreSeen done self.old → OnOk result (AreSeen (reverse sends.now ++ done) self.new) }
     {
         let mut places = [0; AT_ONCE];
-        guess_all(&self.last, key, sends, &mut places);
+        hash_all(key, sends, &mut places);
+        guess_all(&self.last, sends, &mut places);
         check_all(&self.last, sends, &mut places);
         self.take_each(sends, &places)
     }

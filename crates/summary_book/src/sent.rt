@@ -8,8 +8,8 @@ use five_tuple::Flow;
 use pool_versions::Backend;
 use run_report::{Sending, Split, version_of};
 
-/// A packet that was sent: its flow and its backend, the version under which it was served, the one under which the backend was
-/// chosen, the node and the worker that sent it, and how many lives the node had before.
+/// A packet that was sent: its flow and its backend, and the node and the worker that sent it. `version` is the one under which
+/// it was served, `origin` the one under which the backend was chosen, and `life` how many lives the node had before.
 #[derive(Clone, Copy)]
 pub(crate) struct Sent {
     pub(crate) flow: Flow,

@@ -1,6 +1,6 @@
-//! What each thread of a node does in a life: the driver obeys commands, a worker serves what comes through its ring, and
+//! What each thread of a node does in a life. The driver obeys commands, a worker serves what comes through its ring, and
 //! the mux gathers what the workers send. What they share is here too: the plan, the rings, the seats at the board, and the
-//! shares of the counts. `node_threads` starts these threads and joins them.
+//! shares of the counts. `node_life` starts the workers' threads and the mux's, `node_threads` the drivers'.
 #![tactic(auto)]
 
 mod assignment;

@@ -10,6 +10,8 @@ complete -c maglev -n __fish_use_subcommand -a explain -d 'Plays a scenario over
 complete -c maglev -n __fish_use_subcommand -a run -d 'Runs a scenario'\''s cluster on threads over a capture, writes what the nodes send, node by node, and prints a report with an audit'
 complete -c maglev -n __fish_use_subcommand -a help -d 'Print this message or the help of the given subcommand(s)'
 complete -c maglev -n __fish_use_subcommand -s v -l verbose -d 'say more of a fault, and of what may not be meant'
+complete -c maglev -n __fish_use_subcommand -l help -d 'Print help'
+complete -c maglev -n __fish_use_subcommand -l version -d 'Print version'
 complete -c maglev -n '__fish_seen_subcommand_from table' -l size -x -a '7 13 251 1021 8191 65537' -d 'slots of the table: 7, 13, 251, 1021, 8191 or 65537'
 complete -c maglev -n '__fish_seen_subcommand_from table' -l hash -x -a 'fnv sha256 sum' -d 'hash of names and flows: fnv, sha256 or sum'
 complete -c maglev -n '__fish_seen_subcommand_from table' -l scenario -r -F -d 'take the size, the hash and the members from a scenario'
