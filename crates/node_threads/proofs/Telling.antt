@@ -1,6 +1,6 @@
 -- What a node's run tells of a fault.
 use Rattle.std.proofs.Common.{◌≡◌, ℕ, Bool, List, inl, inr, sym, subst}
-use Rattle.std.specs.Prelude.{Err}
+use Rattle.std.specs.Prelude.{Result, Ok, Err, IfErr, IsErrAnd}
 use Rattle.cluster_node.specs.Rules.{Rules}
 use Rattle.cluster_node.specs.declared.outcomes.Outcome.{Outcome}
 use Rattle.thread_records.specs.declared.nodes.NodeRecord.{NodeRecord}
@@ -13,6 +13,11 @@ use Rattle.thread_roles.specs.declared.fault.RunFault.{RunFault}
 use Rattle.thread_roles.specs.declared.fault.RunFault.TheVariants.{Foreign, RingLost, ThreadLost, BookLost, Memory}
 use Rattle.node_life.specs.Told.{LifeTells}
 use Rattle.node_threads.specs.Told.{NodeTells}
+
+-- a fault that is passed on
+pub err_exit : {T E : Type 0} (P : E → Type 0) (r : Result T E) (e : E) → IsErrAnd r (λ f. f ≡ e) → P e → IfErr r P
+err_exit P (Ok x) e is p = absurd is
+err_exit P (Err f) e is p = subst P (sym is) p
 
 module _ {S H : Type 0} (eq : S → S → Bool) (rules : Rules) (asked : Asked S H) where
   pub life_tells : (start : ℕ) (fault : RunFault) → LifeTells eq rules asked start fault → NodeTells eq rules asked fault

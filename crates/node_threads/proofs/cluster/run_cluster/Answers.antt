@@ -13,7 +13,7 @@ use Rattle.thread_roles.specs.Counts.{AreTotals}
 use Rattle.thread_roles.specs.declared.fault.RunFault.TheVariants.{Memory}
 use Rattle.node_threads.specs.Orders.{asked_all}
 use Rattle.node_threads.proofs.Reporting.{refused}
-use Rattle.node_life.proofs.Telling.{err_exit}
+use Rattle.node_threads.proofs.Telling.{err_exit}
 use Rattle.node_threads.proofs.cluster.run_cluster.Goals as goal
 
 pub returns-clause-runs : goal.returns-clause-runs

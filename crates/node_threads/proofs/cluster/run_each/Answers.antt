@@ -1,4 +1,4 @@
-use Rattle.node_life.proofs.Telling.{err_exit}
+use Rattle.node_threads.proofs.Telling.{err_exit}
 use Rattle.node_threads.proofs.cluster.run_each.Goals as goal
 
 pub returns-clause-runs : goal.returns-clause-runs

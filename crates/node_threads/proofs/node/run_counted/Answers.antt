@@ -15,9 +15,8 @@ use Rattle.thread_roles.specs.Going.{Going, IsLived, IsLast, Asked}
 use Rattle.thread_roles.specs.declared.fault.RunFault.TheVariants.{Memory, BookLost}
 use Rattle.thread_roles.proofs.Goes.{same_run}
 use Rattle.node_life.specs.Told.{LifeTells}
-use Rattle.node_life.proofs.Telling.{err_exit}
 use Rattle.node_threads.specs.Told.{NodeTells}
-use Rattle.node_threads.proofs.Telling.{life_tells, run_tells, book_tells, memory_tells}
+use Rattle.node_threads.proofs.Telling.{err_exit, life_tells, run_tells, book_tells, memory_tells}
 use Rattle.node_threads.proofs.node.run_counted.Goals as goal
 
 pub loop-sent-init : goal.loop-sent-init

@@ -6,8 +6,7 @@ use Rattle.thread_records.proofs.Leans.{same_is_run}
 use Rattle.thread_roles.specs.Counts.{AreTotals}
 use Rattle.thread_roles.specs.Going.{Asked, asked_of}
 use Rattle.thread_roles.specs.declared.fault.RunFault.TheVariants.{Memory}
-use Rattle.node_life.proofs.Telling.{err_exit}
-use Rattle.node_threads.proofs.Telling.{memory_tells}
+use Rattle.node_threads.proofs.Telling.{err_exit, memory_tells}
 use Rattle.node_threads.proofs.node.run_node.Goals as goal
 
 pub returns-clause-run : goal.returns-clause-run
