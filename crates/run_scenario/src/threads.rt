@@ -4,7 +4,6 @@ ghost use Rattle.hash_laws.specs.Any.{plain_of};
 ghost use Rattle.cluster_core.specs.Cluster.{WereRead};
 ghost use Rattle.cluster_core.specs.Runs.{verdicts};
 ghost use Rattle.cluster_core.specs.Deployed.{rules_of};
-ghost use Rattle.cluster_core.specs.Setups.{rules_for};
 ghost use Rattle.thread_records.specs.Joins.{all_outcomes};
 ghost use Rattle.thread_records.specs.Paced.{NoneRefused};
 ghost use Rattle.thread_records.specs.Runs.{AreRuns};
@@ -102,30 +101,6 @@ fn judged<R: Threads + Sync>(
     }
 }
 
-// The setup of a scenario's cluster, whose tables hash flows by the key.
-fn setup_in(
-    alloc: Global,
-    scenario: &Scenario,
-    key: TableKey,
-) -> Result<Setup<NamedScheme, AnyHash>, AllocError>
-    ensures { IfOk result (λ setup. rules_for (λ s z. pick_of s z) (λ h. plain_of h) setup scenario.now.catalogue ≡ rules_in scenario.now) }
-{
-    let nodes = Vec::from_slice(alloc, scenario.nodes.as_slice())?;
-    let scheme = scheme_of(scenario.scheme, scenario.hash);
-    let Ok(setup) = Setup::new(
-        scenario.hash,
-        scheme,
-        scenario.size,
-        nodes,
-        scenario.workers,
-        scenario.capacity,
-        scenario.idle,
-    ) else {
-        unreachable!()
-    };
-    Ok(setup.keyed(key))
-}
-
 /// Runs the cluster with the scheme that the scenario names, each node by its list of commands, and replays its history. The
 /// commands are given back before that. What is told beside the report is made meanwhile, of connections by the ordinals of the
 /// records, where there are any.
@@ -148,7 +123,20 @@ pub(crate) fn run_named<R: Threads + Wait + Sync, G: Gate + Sync>(
     ensures stopped { IfErr result IsOfThreads }
 {
     let scenario = task.scenario;
-    let setup = setup_in(alloc, scenario, task.key)?;
+    let nodes = Vec::from_slice(alloc, scenario.nodes.as_slice())?;
+    let scheme = scheme_of(scenario.scheme, scenario.hash);
+    let Ok(setup) = Setup::new(
+        scenario.hash,
+        scheme,
+        scenario.size,
+        nodes,
+        scenario.workers,
+        scenario.capacity,
+        scenario.idle,
+    ) else {
+        unreachable!()
+    };
+    let setup = setup.keyed(task.key);
     let rings = RingRules {
         places: scenario.ring,
         paced: task.options.paced,
