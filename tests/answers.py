@@ -176,14 +176,19 @@ def test_on_threads():
         check(f"run {seed}, paced", answer[:3] == (0, lines.encode(), b""), f"{answer} {lines}")
 
 
+def done_by(words):
+    """What a page's command over sent.pcap does, which lies in a folder that goes."""
+    with tempfile.TemporaryDirectory() as folder:
+        command = " ".join([PROGRAM, *words[1:]]).replace("sent.pcap", f"{folder}/sent.pcap")
+        return subprocess.run(command, shell=True, capture_output=True, cwd=TOP, timeout=600, check=False)
+
+
 def test_pages():
     """What USING.md shows of these answers is what is printed, and what the model says."""
     shown = [one for one in rows.commands_of((TOP / "docs" / "USING.md").read_text()) if {"--summary", "--where", "--per-backend"} & set(one[0])]
     check("USING.md shows each", len(shown) == 3, shown)
     for words, lines in shown:
-        with tempfile.TemporaryDirectory() as folder:
-            command = " ".join([PROGRAM, *words[1:]]).replace("sent.pcap", f"{folder}/sent.pcap")
-            done = subprocess.run(command, shell=True, capture_output=True, cwd=TOP, timeout=600, check=False)
+        done = done_by(words)
         printed = done.stdout.decode()
         check(f"USING.md: {' '.join(words[:3])}", printed and lines.startswith(printed) and not done.stderr, f"{done} {lines}")
     text, data, _ = rows.example("failover", "failover")
@@ -215,9 +220,7 @@ def test_readme_paced():
     sent = [line for line in found.report().splitlines(keepends=True) if line.startswith("forwarded ")]
     ((words, lines),) = [one for one in rows.commands_of((TOP / "README.md").read_text()) if "--pace" in one[0]]
     check("README's paced run is the model's", lines == "".join([*sent, "audit agrees\n"]), f"{lines} {sent}")
-    with tempfile.TemporaryDirectory() as folder:
-        command = " ".join([PROGRAM, *words[1:]]).replace("sent.pcap", f"{folder}/sent.pcap")
-        done = subprocess.run(command, shell=True, capture_output=True, cwd=TOP, timeout=600, check=False)
+    done = done_by(words)
     check("README's paced run", (done.returncode, done.stdout.decode(), done.stderr) == (0, lines, b""), done)
 
 

@@ -267,7 +267,10 @@ def record(data, seconds=1, nanoseconds=999999999):
 
 
 def packet(letter):
-    """y, z and x are the flows from ports 1000, 1001 and 1006; w is one to a port that no service has."""
+    """y, z and x are the flows from ports 1000, 1001 and 1006; w is one to a port that no service has; of v the header's checksum is
+    wrong."""
+    if letter == "v":
+        return P[:10] + b"\xff\xff" + P[12:]
     if letter == "w":
         return P[:23] + b"\x51" + P[24:]
     ports = {"y": 0xE8, "z": 0xE9, "x": 0xEE}

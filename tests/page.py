@@ -82,6 +82,13 @@ def lines_of_rolling():
     return objects.text_of(told + objects.planned(model.plan(text, 1, 2)) + objects.ordered(model.ordered(text, 1, 4)))
 
 
+def shows_reasons(name, page, said):
+    """A page has each reason for which connections changed their server by this summary, and how often, and no other."""
+    for cause in model.CHANGES:
+        count = int(said[f"changes {cause}"])
+        check(f"{name}: {cause}", (f"<td>{cause}</td>" in page) == (count > 0) and (not count or f'<td class="count">{count:,}</td>' in page), count)
+
+
 def test_numbers():
     """What a rollout's page shows is what the model counts."""
     _, _, found = rolling()
@@ -89,9 +96,7 @@ def test_numbers():
     said = dict(objects.lines_of(found.summary()))
     for name, count in [("connections", said["connections"]), ("changed their server", said["changed"]), ("packets", len(found.records))]:
         check(f"a rollout: {name}", f"<b>{int(count):,}</b><span>{name}</span>" in page, count)
-    for cause in model.CHANGES:
-        count = int(said[f"changes {cause}"])
-        check(f"a rollout: {cause}", (f"<td>{cause}</td>" in page) == (count > 0) and (not count or f'<td class="count">{count:,}</td>' in page), count)
+    shows_reasons("a rollout", page, said)
     sends = found.sends()
     servers = {"@".join(sent[3]) for sent in sends}
     check("a rollout: each server has a line", all(server in page for server in servers), servers)
@@ -348,9 +353,7 @@ def test_a_summary_alone():
     _, _, found = rolling()
     said = dict(objects.lines_of(found.summary()))
     page, _ = page_of("a summary alone", objects.text_of(objects.simulated(found, "--summary")))
-    for cause in model.CHANGES:
-        count = int(said[f"changes {cause}"])
-        check(f"a summary alone: {cause}", (f"<td>{cause}</td>" in page) == (count > 0) and (not count or f'<td class="count">{count:,}</td>' in page), count)
+    shows_reasons("a summary alone", page, said)
 
 
 def test_a_million_splits():
@@ -420,13 +423,11 @@ def test_what_cannot_be_read_or_written():
         text = '{"type":"maglev","version":1,"command":"plan"}\n'
         (Path(folder) / "in.jsonl").write_text(text)
         (Path(folder) / "link.html").symlink_to("in.jsonl")
-        for out in ("in.jsonl", "./in.jsonl", "link.html"):
-            done = subprocess.run([sys.executable, TOOL, "in.jsonl", out], cwd=folder, capture_output=True, text=True, timeout=60, check=False)
+        same, none = "OUT is the file of IN", "[Errno 2] No such file or directory: 'none.jsonl'"
+        for files, told in [(["in.jsonl", out], same) for out in ("in.jsonl", "./in.jsonl", "link.html")] + [(["none.jsonl", "in.jsonl"], none)]:
+            done = subprocess.run([sys.executable, TOOL, *files], cwd=folder, capture_output=True, text=True, timeout=60, check=False)
             said = (done.returncode, done.stderr, (Path(folder) / "in.jsonl").read_text())
-            check(f"{out}: IN is no OUT", said == (1, "report.py: OUT is the file of IN\n", text), said)
-        done = subprocess.run([sys.executable, TOOL, "none.jsonl", "in.jsonl"], cwd=folder, capture_output=True, text=True, timeout=60, check=False)
-        said = (done.returncode, done.stderr, (Path(folder) / "in.jsonl").read_text())
-        check("no IN", said == (1, "report.py: [Errno 2] No such file or directory: 'none.jsonl'\n", text), said)
+            check(f"{' '.join(files)}: {told}", said == (1, f"report.py: {told}\n", text), said)
     page, _ = page_of("a whole pair", '{"type":"maglev","version":1,"command":"\\ud83d\\ude00"}\n')
     check("a whole pair: it is shown", "\U0001f600" in page, page[-80:])
 

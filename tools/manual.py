@@ -136,7 +136,7 @@ def bash_words(whole, commands):
     lines = ["# Completions of maglev for bash.", "_maglev() {", '    local word=${COMP_WORDS[COMP_CWORD]} before=${COMP_WORDS[COMP_CWORD-1]} at=1']
     lines.append('    if [ "$word" = = ]; then word=; elif [ "$before" = = ]; then before=${COMP_WORDS[COMP_CWORD-2]}; fi')
     lines.append('    if [ "$COMP_CWORD" -eq 1 ]; then')
-    lines.append(f'        mapfile -t COMPREPLY < <(compgen -W "{names} help {" ".join(VERBOSE)} --help --version" -- "$word")')
+    lines.append(f'        mapfile -t COMPREPLY < <(compgen -W "{names} help {" ".join([*VERBOSE, *(long for long, _, _ in whole.options())])}" -- "$word")')
     lines += ["        return", "    fi", f'    case ${{COMP_WORDS[1]}} in {" | ".join(VERBOSE)}) at=2 ;; esac']
     lines.append('    if [ "$COMP_CWORD" -eq "$at" ]; then')
     lines.append(f'        mapfile -t COMPREPLY < <(compgen -W "{names}" -- "$word")')
@@ -163,7 +163,7 @@ def zsh_words(whole, commands):
     """Completions for zsh."""
     lines = ["#compdef maglev", "# Completions of maglev for zsh.", "_maglev() {", "    local -a commands options", "    commands=("]
     lines += ["        " + quoted(f"{word}:{text}") for word, text in whole.parts["Commands:"]]
-    options = [*(f"{word}:{VERBOSE_TEXT}" for word in VERBOSE), "--help:Print help", "--version:Print version"]
+    options = [*(f"{word}:{VERBOSE_TEXT}" for word in VERBOSE), *(f"{long}:{text}" for long, _, text in whole.options())]
     lines += ["    )", f"    options=({' '.join(map(quoted, options))})"]
     lines.append(f'    if (( CURRENT > 2 )) && [[ $words[2] = ({"|".join(VERBOSE)}) ]]; then')
     lines += ["        words[2]=()", "        (( CURRENT-- ))", "        options=()", "    fi"]
@@ -186,7 +186,7 @@ def fish_words(whole, commands):
     for word, text in whole.parts["Commands:"]:
         lines.append(f"complete -c maglev -n __fish_use_subcommand -a {word} -d {quoted(text)}")
     lines.append(f"complete -c maglev -n __fish_use_subcommand -s v -l verbose -d {quoted(VERBOSE_TEXT)}")
-    lines += [f"complete -c maglev -n __fish_use_subcommand -l {word} -d 'Print {word}'" for word in ("help", "version")]
+    lines += [f"complete -c maglev -n __fish_use_subcommand -l {long[2:]} -d {quoted(text)}" for long, _, text in whole.options()]
     for one in commands:
         seen = f"-n '__fish_seen_subcommand_from {one.name}'"
         if one.takes_files():
